@@ -1,0 +1,12 @@
+-- Document 01 as definitions: these modules are what a reader must believe. What proofs merely use stands under `Proving`.
+pub mod Piece
+pub mod Same
+pub mod Runs
+pub mod Lists
+pub mod Answer
+pub mod Sweep
+pub mod TwoWay
+pub mod ManyWay
+pub mod Selections
+pub mod Outcomes
+pub mod Refusals

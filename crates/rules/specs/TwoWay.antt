@@ -1,0 +1,54 @@
+-- Two-way operations: the line is cut where the covering left range, or the covering right range, or either's absence, changes. A range is known by its place, so nothing merges; values are read when the runs are found. Assumes nothing.
+use Prim.Native.Nat.{ℕ}
+use mathlib.Core.Bool.{Bool, true, false, cond, _&&_, _||_}
+use mathlib.Core.Option.{Option, none, some}
+use mathlib.Core.List.{List, [], _∷_}
+use lib.Dec.{eqb}
+use lib.IntN.{ℤ, pos}
+use Rattle.rules.specs.Piece.{Piece}
+use Rattle.rules.specs.Same.{eqOption, eqPair}
+use Rattle.rules.specs.Runs.{runs}
+
+-- inner keeps what both cover, left what the left covers, full what either covers
+pub data Pairing : Type 0 where
+  inner : Pairing
+  left : Pairing
+  full : Pairing
+
+-- the places of the ranges that cover, left and right
+abbrev pub Match : Type 0
+Match = Option ℕ × Option ℕ
+
+abbrev pub there : {A : Type 0} → Option A → Bool
+there none = false
+there (some a) = true
+
+abbrev pub keeps : Pairing → Match → Bool
+keeps inner m = there (m .0) && there (m .1)
+keeps left m = there (m .0)
+keeps full m = there (m .0) || there (m .1)
+
+abbrev pub pair-rule : Pairing → List (Option ℕ) → Option Match
+pair-rule o [] = none
+pair-rule o (l ∷ []) = none
+pair-rule o (l ∷ r ∷ []) = cond (keeps o (l, r)) (some (l, r)) none
+pair-rule o (l ∷ r ∷ m ∷ ms) = none
+
+abbrev pub same-match : Match → Match → Bool
+same-match = eqPair (eqOption eqb) (eqOption eqb)
+
+-- the pieces of two lists over n points, whose values are places
+unfoldable pub paired : Pairing → ℕ → List (List (Piece ℕ)) → List (Piece Match)
+unfolding runs
+paired o n ls = runs same-match (pair-rule o) n ls
+
+-- a missing side is written as value 0 with its presence bit clear: bit 0 left, bit 1 right
+abbrev pub side-value : (ℕ → ℤ) → Option ℕ → ℤ
+side-value v none = pos 0
+side-value v (some i) = v i
+
+abbrev pub presence : Match → ℕ
+presence (none, none) = 0
+presence (some i, none) = 1
+presence (none, some j) = 2
+presence (some i, some j) = 3
