@@ -10,3 +10,4 @@ pub mod ManyWay
 pub mod Selections
 pub mod Outcomes
 pub mod Refusals
+pub mod Proving

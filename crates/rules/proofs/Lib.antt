@@ -1,0 +1,6 @@
+pub mod At
+pub mod Unique
+pub mod Push
+pub mod Cuts
+pub mod Runs
+pub mod Same

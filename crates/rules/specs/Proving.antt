@@ -1,0 +1,2 @@
+-- What proofs use beside document 01's definitions. Assumes nothing.
+pub mod Below

@@ -1,0 +1,28 @@
+//! The oracle of the joins: the crate's own iterators, an independent reading of document 01,
+//! and the cases on which the two are held against each other.
+
+extern crate alloc;
+
+#[rustfmt::skip]
+mod blaze;
+mod scaffold;
+
+pub mod answers;
+pub mod blaze_side;
+pub mod boundary;
+pub mod call;
+pub mod case;
+pub mod compare;
+pub mod faults;
+pub mod generator;
+pub mod random;
+pub mod reading;
+pub mod small_lists;
+pub mod text;
+
+// The names that the unchanged files take from their crate's root.
+pub mod map {
+    pub use crate::scaffold::ValueCarrier;
+}
+pub use blaze::{MultiwaySweep, SweepEvent};
+pub use scaffold::{Integer, Owned, SortedDisjointMap, SortedStartsMap};
