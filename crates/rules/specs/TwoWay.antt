@@ -1,9 +1,9 @@
 -- Two-way operations: the line is cut where the covering left range, or the covering right range, or either's absence, changes. A range is known by its place, so nothing merges; values are read when the runs are found. Assumes nothing.
-use Prim.Native.Nat.{ℕ}
+use Prim.Native.Nat.{ℕ, max, min}
 use mathlib.Core.Bool.{Bool, true, false, cond, _&&_, _||_}
 use mathlib.Core.Option.{Option, none, some}
-use mathlib.Core.List.{List, [], _∷_}
-use lib.Dec.{eqb}
+use mathlib.Core.List.{List, [], _∷_, _++_}
+use lib.Dec.{eqb, leb}
 use lib.IntN.{ℤ, pos}
 use Rattle.rules.specs.Piece.{Piece}
 use Rattle.rules.specs.Same.{eqOption, eqPair}
@@ -52,3 +52,24 @@ presence (none, none) = 0
 presence (some i, none) = 1
 presence (none, some j) = 2
 presence (some i, some j) = 3
+
+-- the intersection of a left range and a right range, where they share a point
+abbrev pub meet : Piece ℕ → Piece ℕ → List (Piece Match)
+meet x y =
+    let from = max (x .start) (y .start) in
+    let upto = min (x .end) (y .end) in
+    cond (leb from upto) (record { start = from; end = upto; value = (some (x .value), some (y .value)) } ∷ []) []
+
+-- one piece for every left range and right range that share a point
+abbrev pub meet-all : Piece ℕ → List (Piece ℕ) → List (Piece Match)
+meet-all x [] = []
+meet-all x (y ∷ ys) = meet x y ++ meet-all x ys
+
+abbrev pub meets : List (Piece ℕ) → List (Piece ℕ) → List (Piece Match)
+meets [] ys = []
+meets (x ∷ xs) ys = meet-all x ys ++ meets xs ys
+
+-- the runs of a cutting that an operation keeps
+abbrev pub kept : Pairing → List (Piece Match) → List (Piece Match)
+kept o [] = []
+kept o (x ∷ xs) = let rest = kept o xs in cond (keeps o (x .value)) (x ∷ rest) rest
