@@ -114,12 +114,9 @@ fn combined(combiner: u8, carried: impl Iterator<Item = Owned<i32>>) -> i64 {
 
 fn event<T: Point>(event: SweepEvent<T, Owned<i32>>) -> Event<T> {
     match event {
-        SweepEvent::Start { range, input, value } => Event {
-            kind: 0,
-            point: *range.start(),
-            list: input as u8,
-            value: value.into_value(),
-        },
+        SweepEvent::Start { range, input, value } => {
+            Event { kind: 0, point: *range.start(), list: input as u8, value: value.into_value() }
+        }
         SweepEvent::End { at, input } => Event { kind: 1, point: at, list: input as u8, value: 0 },
     }
 }

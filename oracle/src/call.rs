@@ -93,10 +93,8 @@ impl Operation {
         Self::TwoWayFull,
     ];
 
-    /// The operations that take any number of lists.
-    pub fn of_any_lists() -> &'static [Self] {
-        &Self::ALL[..13]
-    }
+    /// Those that take any number of lists.
+    pub const OF_ANY_LISTS: &'static [Self] = Self::ALL.split_at(13).0;
 
     pub fn is_two_way(self) -> bool {
         matches!(self, Self::TwoWayInner | Self::TwoWayLeft | Self::TwoWayFull)
@@ -107,6 +105,15 @@ impl Operation {
         match self {
             Self::Inner(combiner) | Self::Full(combiner) => Some(combiner),
             _ => None,
+        }
+    }
+
+    /// How many output columns it writes.
+    pub fn column_count(self) -> usize {
+        match self {
+            Self::Events => 4,
+            Self::TwoWayInner | Self::TwoWayLeft | Self::TwoWayFull => 5,
+            _ => 3,
         }
     }
 
@@ -207,24 +214,9 @@ impl<T> Pieces<T> {
 /// The output columns of one operation. They may differ in length.
 #[derive(Clone, Debug, PartialEq, Eq)]
 pub enum Columns<T> {
-    Events {
-        kinds: Vec<u8>,
-        points: Vec<T>,
-        lists: Vec<u8>,
-        values: Vec<i32>,
-    },
-    Sides {
-        starts: Vec<T>,
-        ends: Vec<T>,
-        lefts: Vec<i32>,
-        rights: Vec<i32>,
-        presences: Vec<u8>,
-    },
-    Priced {
-        starts: Vec<T>,
-        ends: Vec<T>,
-        values: Vec<i64>,
-    },
+    Events { kinds: Vec<u8>, points: Vec<T>, lists: Vec<u8>, values: Vec<i32> },
+    Sides { starts: Vec<T>, ends: Vec<T>, lefts: Vec<i32>, rights: Vec<i32>, presences: Vec<u8> },
+    Priced { starts: Vec<T>, ends: Vec<T>, values: Vec<i64> },
 }
 
 impl<T> Columns<T> {
@@ -238,9 +230,7 @@ impl<T> Columns<T> {
                 let points = starts.len().min(ends.len());
                 points.min(lefts.len()).min(rights.len()).min(presences.len())
             }
-            Self::Priced { starts, ends, values } => {
-                starts.len().min(ends.len()).min(values.len())
-            }
+            Self::Priced { starts, ends, values } => starts.len().min(ends.len()).min(values.len()),
         }
     }
 }

@@ -55,10 +55,11 @@ pub fn every_room<T: Point>(seed: u64, cases: u64) -> impl Iterator<Item = Case<
         };
         (0..=most_pieces(&lent)).map(call).collect::<Vec<_>>()
     };
-    (0..)
-        .flat_map(with_rooms)
-        .zip(0..cases)
-        .map(|(call, number)| Case { number, call, due: Due::TheCrate })
+    (0..).flat_map(with_rooms).zip(0..cases).map(|(call, number)| Case {
+        number,
+        call,
+        due: Due::TheCrate,
+    })
 }
 
 /// More pieces than any operation needs over these lists.
@@ -67,7 +68,11 @@ pub fn most_pieces<T>(lent: &Lent<T>) -> u64 {
 }
 
 /// Random well-formed lists, as many as the operation takes.
-pub fn lists<T: Point>(random: &mut Random, operation: Operation, size: Size) -> Vec<Vec<Tariff<T>>> {
+pub fn lists<T: Point>(
+    random: &mut Random,
+    operation: Operation,
+    size: Size,
+) -> Vec<Vec<Tariff<T>>> {
     let count = match random.below(8) {
         _ if operation.is_two_way() => 2,
         0 => random.below(2),
@@ -95,7 +100,8 @@ pub fn lists_of_ranges<T: Point>(
     let (widest_gap, longest_range) = (random.between(1, 3), random.between(1, 6));
     let points = ranges * (widest_gap + longest_range);
     let first_key = anchor::<T>(random, points);
-    let spread = Spread { first_key, last_key: first_key + (points - 1), widest_gap, longest_range };
+    let spread =
+        Spread { first_key, last_key: first_key + (points - 1), widest_gap, longest_range };
     let list = |index| {
         let share = ranges / count + u64::from(index < ranges % count);
         list(random, &spread, &values, share)
@@ -184,12 +190,16 @@ fn reach_the_ends<T: Point>(random: &mut Random, list: &mut [Tariff<T>]) {
     }
 }
 
-/// Output columns of which the shortest has this length or a little more.
-pub fn uneven_columns<T: Point>(random: &mut Random, operation: Operation, room: u64) -> Columns<T> {
-    let longer = random.below(5);
-    let lengths: [u64; 5] = core::array::from_fn(|column| {
-        room + if column as u64 == longer { random.between(0, 3) } else { random.below(2) }
-    });
+/// Output columns of which the shortest, any of them, has this length.
+pub fn uneven_columns<T: Point>(
+    random: &mut Random,
+    operation: Operation,
+    room: u64,
+) -> Columns<T> {
+    let shortest = random.below(operation.column_count() as u64) as usize;
+    let longer_by = random.below(2);
+    let mut lengths = [0; 5].map(|_| room + longer_by + random.below(3));
+    lengths[shortest] = room;
     columns(random, operation, lengths)
 }
 

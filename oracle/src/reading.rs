@@ -107,9 +107,8 @@ struct Lists<'a, T> {
 impl<T: Point> Lists<'_, T> {
     /// The place of the range of a list that covers the point.
     fn covering(&self, list: usize, point: T) -> Option<usize> {
-        let covers = |&place: &usize| {
-            self.lent.starts[place] <= point && point <= self.lent.ends[place]
-        };
+        let covers =
+            |&place: &usize| self.lent.starts[place] <= point && point <= self.lent.ends[place];
         self.places[list].clone().find(covers)
     }
 
@@ -196,7 +195,8 @@ impl<T: Point> Lists<'_, T> {
         for (list, places) in self.places.iter().enumerate() {
             let list = list as u8;
             for place in places.clone() {
-                let (start, end, value) = (lent.starts[place], lent.ends[place], lent.values[place]);
+                let (start, end, value) =
+                    (lent.starts[place], lent.ends[place], lent.values[place]);
                 events.push(Event { kind: 0, point: start, list, value });
                 events.push(Event { kind: 1, point: end, list, value: 0 });
             }

@@ -4,3 +4,5 @@ pub mod Push
 pub mod Cuts
 pub mod Runs
 pub mod Same
+pub mod Condition3
+pub mod Room

@@ -1,0 +1,130 @@
+//! The comparison: every case through the crate and through the reading.
+
+use std::panic::{AssertUnwindSafe, catch_unwind};
+
+use crate::call::{Operation, Outcome, Point};
+use crate::case::{Case, Due};
+use crate::small_lists::{Universe, every_set};
+use crate::{answers, blaze_side, boundary, faults, generator, reading, text};
+
+/// Sets of lists taken whole: pairs over short lines, triples over shorter ones. The largest go
+/// through the operations that look at most of what a list has.
+const UNIVERSES: [(&str, Universe); 6] = [
+    ("pairs over 4 points, two values", universe(4, &[-3, 0], 2, &Operation::ALL)),
+    ("pairs over 5 points, one value", universe(5, &[4], 2, &Operation::ALL)),
+    (
+        "pairs over 5 points, two values",
+        universe(5, &[-3, 0], 2, &[Operation::Full(1), Operation::SymmetricDifference]),
+    ),
+    ("triples over 2 points, two values", universe(2, &[-3, 0], 3, Operation::OF_ANY_LISTS)),
+    ("triples over 3 points, one value", universe(3, &[4], 3, Operation::OF_ANY_LISTS)),
+    (
+        "triples over 3 points, two values",
+        universe(3, &[-3, 0], 3, &[Operation::Inner(1), Operation::Full(5), Operation::Union]),
+    ),
+];
+
+const fn universe(
+    points: u64,
+    values: &'static [i32],
+    lists: u32,
+    operations: &'static [Operation],
+) -> Universe {
+    Universe { points, values, lists, operations }
+}
+
+/// Crowded cases of each width.
+const CROWDED: u64 = 100;
+
+/// What the comparison is asked for: a seed, and how many random cases in all.
+#[derive(Clone, Copy)]
+pub struct Plan {
+    pub seed: u64,
+    pub random_cases: u64,
+}
+
+impl Default for Plan {
+    fn default() -> Self {
+        Self { seed: 1, random_cases: 400_000 }
+    }
+}
+
+/// A named part of the comparison.
+type Part<T> = (&'static str, Box<dyn Iterator<Item = Case<T>>>);
+
+/// Everything, both widths. Tells how many cases there were, or the first difference.
+pub fn run(plan: Plan) -> Result<u64, String> {
+    let cases = run_width::<u32>(plan)? + run_width::<i64>(plan)?;
+    let listed = answers::compare_with_file()?;
+    println!("answers.txt: {listed} cases");
+    Ok(cases + listed)
+}
+
+fn run_width<T: Point>(plan: Plan) -> Result<u64, String> {
+    let mut all = 0;
+    for (name, cases) in parts::<T>(plan) {
+        let mut count = 0;
+        for case in cases {
+            check(&case).map_err(|difference| {
+                let at = format!("{name}, {}, case {}, seed {}", T::WIDTH, case.number, plan.seed);
+                format!("{at}\n\n{}\n{difference}", text::call_lines(&case.call))
+            })?;
+            count += 1;
+        }
+        println!("{} {name}: {count} cases", T::WIDTH);
+        all += count;
+    }
+    Ok(all)
+}
+
+/// The parts for one width. Half the random cases are well formed, a quarter try every room, and
+/// a quarter are malformed.
+fn parts<T: Point>(plan: Plan) -> Vec<Part<T>> {
+    let seed = plan.seed;
+    let quarter = plan.random_cases.div_ceil(8);
+    let mut parts: Vec<Part<T>> = vec![("boundary sheet", Box::new(boundary::sheet().into_iter()))];
+    for (name, universe) in UNIVERSES {
+        parts.push((name, Box::new(every_set(universe))));
+    }
+    let well_formed = (0..2 * quarter).map(move |number| generator::well_formed(seed, number));
+    let crowded = (0..CROWDED).map(move |number| generator::crowded(seed, number));
+    let malformed = (0..quarter).map(move |number| faults::malformed(seed, number));
+    parts.push(("well-formed lists", Box::new(well_formed)));
+    parts.push(("crowded lists", Box::new(crowded)));
+    parts.push(("every room", Box::new(generator::every_room(seed, quarter))));
+    parts.push(("malformed lists", Box::new(malformed)));
+    parts
+}
+
+/// Holds the outcome that is due for a case against the reading.
+fn check<T: Point>(case: &Case<T>) -> Result<(), String> {
+    let call = &case.call;
+    let read = guarded("reading", || reading::outcome(call))?;
+    match &case.due {
+        Due::TheCrate => agree("crate", &guarded("crate", || blaze_side::outcome(call))?, &read),
+        Due::Refused(answer) => {
+            let refused = Outcome { answer: *answer, columns: call.columns.clone() };
+            agree("planted", &refused, &read)
+        }
+        Due::Sheet(pieces) => {
+            let crates = guarded("crate", || blaze_side::pieces(call.operation, &call.lent))?;
+            if crates != *pieces {
+                return Err(format!("sheet:\n{pieces:?}\n\ncrate:\n{crates:?}\n"));
+            }
+            agree("crate", &blaze_side::outcome(call), &read)
+        }
+    }
+}
+
+fn agree<T: Point>(name: &str, due: &Outcome<T>, read: &Outcome<T>) -> Result<(), String> {
+    if due == read {
+        return Ok(());
+    }
+    let whole = |outcome| text::outcome_lines(outcome, usize::MAX);
+    Err(format!("{name}:\n{}\nreading:\n{}", whole(due), whole(read)))
+}
+
+/// The result of a program, or that it panicked.
+fn guarded<R>(name: &str, program: impl FnOnce() -> R) -> Result<R, String> {
+    catch_unwind(AssertUnwindSafe(program)).map_err(|_| format!("{name}:\npanicked\n"))
+}

@@ -1,0 +1,60 @@
+//! Runs the comparison, or prints the fixed list of answers.
+
+use std::process::ExitCode;
+
+use oracle::compare::{self, Plan};
+
+const HELP: &str = "\
+oracle [SEED [CASES]]   compare the crate with the reading of document 01
+oracle answers          print the fixed list of answers (answers.txt)
+oracle --help           print this
+
+SEED   seed of the random cases, a number (default 1)
+CASES  how many random cases, both widths together (default 400000)
+
+The comparison prints one line for each part. At the first difference or panic it prints the
+case and both answers, and ends with exit code 1.
+";
+
+fn main() -> ExitCode {
+    let arguments: Vec<String> = std::env::args().skip(1).collect();
+    let arguments: Vec<&str> = arguments.iter().map(String::as_str).collect();
+    match arguments.as_slice() {
+        ["answers"] => print!("{}", oracle::answers::text()),
+        ["--help"] => print!("{HELP}"),
+        numbers => match plan(numbers) {
+            Some(plan) => return compared(plan),
+            None => {
+                eprint!("{HELP}");
+                return ExitCode::from(2);
+            }
+        },
+    }
+    ExitCode::SUCCESS
+}
+
+/// The plan that the numbers ask for, or none where they are not numbers or too many.
+fn plan(numbers: &[&str]) -> Option<Plan> {
+    let mut plan = Plan::default();
+    let (seed, cases) = (numbers.first(), numbers.get(1));
+    if let Some(seed) = seed {
+        plan.seed = seed.parse().ok()?;
+    }
+    if let Some(cases) = cases {
+        plan.random_cases = cases.parse().ok()?;
+    }
+    (numbers.len() <= 2).then_some(plan)
+}
+
+fn compared(plan: Plan) -> ExitCode {
+    match compare::run(plan) {
+        Ok(cases) => {
+            println!("oracle: {cases} cases, 0 differences");
+            ExitCode::SUCCESS
+        }
+        Err(difference) => {
+            println!("oracle: a difference in {difference}");
+            ExitCode::FAILURE
+        }
+    }
+}
