@@ -6,3 +6,5 @@ pub mod Runs
 pub mod Same
 pub mod Condition3
 pub mod Room
+pub mod Sweep
+pub mod Sheet

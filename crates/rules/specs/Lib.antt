@@ -11,3 +11,4 @@ pub mod Selections
 pub mod Outcomes
 pub mod Refusals
 pub mod Proving
+pub mod Sheet

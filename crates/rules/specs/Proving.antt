@@ -1,2 +1,3 @@
 -- What proofs use beside document 01's definitions. Assumes nothing.
 pub mod Below
+pub mod Moments

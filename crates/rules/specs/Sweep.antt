@@ -1,6 +1,7 @@
 -- The sweep: each range yields a start event and an end event, ordered by point, at one point starts before ends, then the lower list first. Assumes nothing.
 use Prim.Native.Nat.{ℕ, suc}
 use mathlib.Core.Bool.{Bool, true, cond, _&&_, _||_}
+use mathlib.Core.Logic.{_⊎_}
 use mathlib.Core.Path.{_≡_}
 use mathlib.Core.List.{List, [], _∷_, _++_}
 use lib.Dec.{ltb, eqb}
@@ -54,11 +55,15 @@ module _ {A : Type 0} where
   unfoldable pub events : List (List (Piece A)) → List (Event A)
   events ls = sort (listed 0 ls)
 
-  -- each event comes before every later one
-  abbrev pub First : Event A → List (Event A) → Type 0
-  First e [] = Unit {0}
-  First e (x ∷ xs) = (before e x ≡ true) × First e xs
+  abbrev pub All : (Event A → Type 0) → List (Event A) → Type 0
+  All P [] = Unit {0}
+  All P (e ∷ es) = P e × All P es
 
+  abbrev pub In : Event A → List (Event A) → Type 0
+  In e [] = ⊥
+  In e (x ∷ xs) = (e ≡ x) ⊎ In e xs
+
+  -- each event comes before every later one
   abbrev pub Ordered : List (Event A) → Type 0
   Ordered [] = Unit {0}
-  Ordered (e ∷ es) = First e es × Ordered es
+  Ordered (e ∷ es) = All (λ x. before e x ≡ true) es × Ordered es
