@@ -8,7 +8,7 @@ use crate::small_lists::{Universe, every_set};
 use crate::{answers, blaze_side, boundary, faults, generator, reading, text};
 
 /// Sets of lists taken whole: pairs over short lines, triples over shorter ones. The largest go
-/// through the operations that look at most of what a list has.
+/// through a few operations only.
 const UNIVERSES: [(&str, Universe); 6] = [
     ("pairs over 4 points, two values", universe(4, &[-3, 0], 2, &Operation::ALL)),
     ("pairs over 5 points, one value", universe(5, &[4], 2, &Operation::ALL)),

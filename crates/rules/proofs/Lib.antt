@@ -8,3 +8,5 @@ pub mod Condition3
 pub mod Room
 pub mod Sweep
 pub mod Sheet
+pub mod TwoWay
+pub mod Meets

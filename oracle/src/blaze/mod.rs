@@ -1,5 +1,4 @@
 //! Six files of range-set-blaze 0.8.0, byte for byte (`SHA256SUMS`), with the crate's licence.
-#![allow(dead_code)]
 
 mod full_join_iter_map;
 mod inner_join_iter_map;
