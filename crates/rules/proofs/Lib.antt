@@ -1,3 +1,4 @@
+-- The laws of document 01: Condition3, TwoWay and Meets, Sweep, Refusals, Room, Sheet. The other modules serve them.
 pub mod At
 pub mod Unique
 pub mod Push
@@ -5,8 +6,10 @@ pub mod Cuts
 pub mod Runs
 pub mod Same
 pub mod Condition3
-pub mod Room
-pub mod Sweep
-pub mod Sheet
 pub mod TwoWay
 pub mod Meets
+pub mod Sweep
+pub mod Faults
+pub mod Refusals
+pub mod Room
+pub mod Sheet
