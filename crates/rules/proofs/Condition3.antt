@@ -1,8 +1,7 @@
 -- Condition 3: a many-way join or selection writes ascending pieces that hold exactly the points its rule admits, each with its rule's value, and touching pieces differ. So two write the same list exactly when their rules agree at every point, however the lists were cut up. Assumes nothing.
 use Prim.Native.Nat.{ℕ, _+_, _≤_, _<_}
-use mathlib.Core.Path.{_≡_, refl, sym, _∙_, ap}
+use mathlib.Core.Path.{_≡_, sym, _∙_, ap}
 use mathlib.Core.Logic.{_⊎_, inl, inr, _↔_}
-use mathlib.Core.Option.{Option}
 use mathlib.Core.List.{List, [], _∷_, _++_}
 use native.Mathlib.Omega.{arith}
 use Rattle.rules.specs.Piece.{Piece, Range, at, column, Within, Differ, AllWellFormed}

@@ -6,14 +6,14 @@ use mathlib.Core.Option.{Option, none, some}
 use mathlib.Core.List.{List, [], _∷_}
 use native.Mathlib.Omega.{arith}
 use lib.Dec.{ltb, eqb}
-use lib.IntN.{ℤ, pos}
+use lib.IntN.{pos}
 use lib.ListN.{length}
 use borrow.Author.Tests.{le-ltb}
 use Rattle.rules.specs.Piece.{Piece, Range, AllWellFormed}
 use Rattle.rules.specs.Same.{eqℤ, Decides}
 use Rattle.rules.specs.Runs.{insert, edges, cuts, line, attach, touch, push, extend, fill, pieces, says, runs}
 use Rattle.rules.specs.TwoWay.{Pairing, same-match, pair-rule, paired}
-use Rattle.rules.specs.ManyWay.{any, every, combine}
+use Rattle.rules.specs.ManyWay.{any, combine}
 use Rattle.rules.specs.Selections.{odd}
 use Rattle.rules.specs.Outcomes.{Operation, inner, full, union, symmetric-difference, rule-of, merged}
 use Rattle.rules.specs.Proving.Below.{nones, size}
