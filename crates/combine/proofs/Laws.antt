@@ -1,0 +1,116 @@
+-- Laws of combiners that take one value more, and of the mean. Assumes nothing.
+use Prim.Native.Nat.{ℕ, zero, suc, _+_, _-_, _*_, _/_, _^_, _≤_, _<_}
+use mathlib.Core.Path.{_≡_, refl, sym, ap, _∙_}
+use mathlib.Core.Bool.{Bool, true, false, cond}
+use mathlib.Core.Option.{none, some}
+use mathlib.Core.List.{List, [], _∷_}
+use native.Mathlib.Omega.{arith}
+use native.Mathlib.Nat.{div-le-self}
+use lib.Dec.{ltb}
+use lib.IntN.{ℤ, pos, negsuc, subℕ, negℤ, _+ℤ_, +ℤ-comm}
+use lib.ListN.{length, List·getD-eq-default}
+use lib.Signed.{mag, leZ, quotZ}
+use mir.Syntax.{w32, w64}
+use mir.Val.{SFits, ofZ, toZ}
+use mir.ValLaws.{toZ-ofZ}
+use Rattle.rules.specs.ManyWay as rules
+
+-- a price as an i64
+pub wide : (v : ℤ) → mag v < 2 ^ 31 → SFits w64 (toZ w32 (ofZ w32 v)) × (toZ w64 (ofZ w64 (toZ w32 (ofZ w32 v))) ≡ v)
+wide v f = rw (toZ-ofZ w32 v (record { sfits = f })) (let g : SFits w64 v = record { sfits = omega arith } in (g, toZ-ofZ w64 v g))
+
+-- a test of two values that went through locals
+pub order-back : (a b : ℤ) {t : Bool} → SFits w64 a → SFits w64 b → leZ (toZ w64 (ofZ w64 a)) (toZ w64 (ofZ w64 b)) ≡ t → leZ a b ≡ t
+order-back a b f g e = rw (toZ-ofZ w64 a f, toZ-ofZ w64 b g) at e
+
+mag-difference : (a b : ℕ) → mag (subℕ a b) ≤ a + b
+mag-difference a b = go (ltb a b) refl where
+  go : (t : Bool) → ltb a b ≡ t → mag (subℕ a b) ≤ a + b
+  go true e = rw e (omega arith)
+  go false e = rw e (omega arith)
+
+mag-sum : (a b : ℤ) → mag (a +ℤ b) ≤ mag a + mag b + 1
+mag-sum (pos a) (pos b) = omega arith
+mag-sum (pos a) (negsuc b) = omega (arith, mag-difference a (suc b))
+mag-sum (negsuc a) (pos b) = omega (arith, mag-difference b (suc a))
+mag-sum (negsuc a) (negsuc b) = omega arith
+
+-- t is the sum of l, and has room for the prices of i places
+pub record Total (i : ℕ) (t : ℤ) (l : List ℤ) : Type 0 where
+  pub room : mag t + i * 2 ^ 31 ≤ 2 ^ 35
+  pub sum : t ≡ rules.sum l
+
+module _ {i : ℕ} {t : ℤ} {l : List ℤ} (s : Total i t l) (h : 0 < i) (v : ℤ) (f : mag v < 2 ^ 31) where
+  pub total-fits : SFits w64 (t +ℤ toZ w64 (ofZ w64 (toZ w32 (ofZ w32 v))))
+  total-fits = rw (wide v f .1) (record { sfits = omega (arith, mag-sum t v) })
+
+  pub total-more : Total (i - 1) (toZ w64 (ofZ w64 (t +ℤ toZ w64 (ofZ w64 (toZ w32 (ofZ w32 v)))))) (v ∷ l)
+  total-more =
+      rw (toZ-ofZ w64 _ total-fits, wide v f .1)
+      (record { room = omega (arith, mag-sum t v); sum = +ℤ-comm t v ∙ ap (λ z. v +ℤ z) (s .sum) })
+
+-- a combiner that picks one of the values, two at a time
+pub record Picks (f : List ℤ → ℤ) : Type 0 where
+  pub one : (v : ℤ) → f (v ∷ []) ≡ v
+  pub more : (v u : ℤ) (us : List ℤ) → f (v ∷ u ∷ us) ≡ f (v ∷ f (u ∷ us) ∷ [])
+
+pub largest-picks : Picks rules.largest
+largest-picks = record { one = λ v. refl; more = λ v u us. refl }
+
+pub smallest-picks : Picks rules.smallest
+smallest-picks = record { one = λ v. refl; more = λ v u us. refl }
+
+abbrev filled : List ℤ → Bool
+filled [] = false
+filled (v ∷ l) = true
+
+-- found says whether l has a value, and best is what f picks of l
+pub record Best (f : List ℤ → ℤ) (found : Bool) (best : ℤ) (l : List ℤ) : Type 0 where
+  pub there : found ≡ filled l
+  pub picked : best ≡ f l
+
+best-picks : {f : List ℤ → ℤ} {found : Bool} {best : ℤ} → Picks f → (l : List ℤ) → Best f found best l → (v : ℤ) {r : ℤ} → r ≡ cond found (f (v ∷ best ∷ [])) v → Best f true r (v ∷ l)
+best-picks p [] b v e = record { there = refl; picked = (rw (b .there) at e) ∙ sym (p .one v) }
+best-picks p (u ∷ us) b v e = record { there = refl; picked = (rw (b .there, b .picked) at e) ∙ sym (p .more v u us) }
+
+-- the same of a price, as the code has it
+pub best-more : {f : List ℤ → ℤ} {found : Bool} {best : ℤ} → Picks f → (l : List ℤ) → Best f found best l → (v : ℤ) → mag v < 2 ^ 31 → (r : ℤ) → mag r < 2 ^ 63 → (let w = toZ w64 (ofZ w64 (toZ w32 (ofZ w32 v))) in r ≡ cond found (f (w ∷ best ∷ [])) w) → Best f true (toZ w64 (ofZ w64 r)) (v ∷ l)
+best-more p l b v g r ok e = best-picks p l b v (toZ-ofZ w64 r (record { sfits = ok }) ∙ (rw (wide v g .1) at e))
+
+mag-negative : (n k : ℕ) → n ≤ suc k → mag (negℤ (pos n)) ≤ k
+mag-negative zero k h = omega arith
+mag-negative (suc n) k h = omega arith
+
+mag-quotient : (z : ℤ) (n : ℕ) → mag (quotZ z (pos n)) ≤ mag z
+mag-quotient (pos a) n = div-le-self a n
+mag-quotient (negsuc a) n = mag-negative (suc a / n) a (div-le-self (suc a) n)
+
+-- the mean, of a sum and a number of values that went through locals
+pub mean-none : (l : List ℤ) {n : ℤ} → n ≡ pos (length l) → ofZ w64 n ≡ 0 → pos 0 ≡ rules.mean l
+mean-none [] e z = refl
+mean-none (v ∷ l) e z = absurd (omega (arith, rw e at z))
+
+quotient : (l : List ℤ) → (length l ≡ 0 → ⊥) → quotZ (rules.sum l) (pos (length l)) ≡ rules.mean l
+quotient [] h = absurd (h refl)
+quotient (v ∷ l) h = refl
+
+module _ (l : List ℤ) {s n : ℤ} (es : s ≡ rules.sum l) (en : n ≡ pos (length l)) (fs : mag s < 2 ^ 63) (fn : mag n < 2 ^ 63) (h : ofZ w64 n ≡ 0 → ⊥) where
+  pub mean-fits : (0 < ofZ w64 n) × SFits w64 (quotZ (toZ w64 (ofZ w64 s)) (toZ w64 (ofZ w64 n)))
+  mean-fits = (
+    omega arith,
+    rw (toZ-ofZ w64 s (record { sfits = fs }), toZ-ofZ w64 n (record { sfits = fn }), en)
+        (record { sfits = omega (arith, mag-quotient s (length l)) }),
+  )
+
+  pub mean-some : toZ w64 (ofZ w64 (quotZ (toZ w64 (ofZ w64 s)) (toZ w64 (ofZ w64 n)))) ≡ rules.mean l
+  mean-some =
+      toZ-ofZ w64 _ (mean-fits .1) ∙
+      rw (toZ-ofZ w64 s (record { sfits = fs }), toZ-ofZ w64 n (record { sfits = fn }), es, en) (quotient l (rw en at h))
+
+-- the answer of a known combiner, and that there is no other
+pub known : (k : ℕ) (f : List ℤ → ℤ) → ((l : List ℤ) → rules.combine k l ≡ some (f l)) → (held : ℕ → List ℤ) {c m n : ℕ} {r : ℤ} → c ≡ k → n ≡ m → r ≡ f (held n) → mag r < 2 ^ 63 → some (toZ w64 (ofZ w64 r)) ≡ rules.combine c (held m)
+known k f is held {c} {m} {n} {r} ec en er ok = rw (toZ-ofZ w64 r (record { sfits = ok }), er, en, ec, is)
+
+pub unknown : (c : ℕ) (l : List ℤ) → (0 < c → 5 < c) → none ≡ rules.combine c l
+unknown zero l h = refl
+unknown (suc c) l h = let q : 6 ≤ suc c = h (omega arith) in rw List·getD-eq-default

@@ -1,0 +1,3 @@
+-- Laws of the combiners. Assumes nothing.
+mod Kept
+mod Laws

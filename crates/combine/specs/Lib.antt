@@ -1,0 +1,2 @@
+-- What the contract of a combiner says. Assumes nothing.
+pub mod Column

@@ -1,0 +1,14 @@
+-- `integer::seat::put_key` meets its contract. Assumes nothing.
+use borrow.Author.Needs.{needs}
+use Rattle.integer.proofs.seat.put_key.Statement.{statement}
+use Rattle.integer.proofs.seat.put_key.Tie as tie
+
+pub put-key-spec : {M : Type 1} → statement M
+put-key-spec =
+    tie.close
+    (tie.spec
+    (λ c κs. search needs)
+    (λ c. search needs)
+    (λ c. search needs)
+    (λ c. search needs)
+    (λ c. cc))

@@ -1,0 +1,52 @@
+use crate::say;
+use integer::seat::Next;
+use integer::seat::add_one;
+use integer::seat::checked_add_one;
+use integer::seat::greatest;
+use integer::seat::least;
+use integer::seat::less;
+use integer::seat::same;
+use integer::seat::sub_one;
+
+pub fn ends() {
+    say(b"least", least() == u32::MIN);
+    say(b"greatest", greatest() == u32::MAX);
+    say(b"least < greatest", less(least(), greatest()));
+    say(b"not greatest < least", !less(greatest(), least()));
+    say(b"not greatest < greatest", !less(greatest(), greatest()));
+    say(b"greatest = greatest", same(greatest(), greatest()));
+    say(b"not least = greatest", !same(least(), greatest()));
+}
+
+pub fn steps() {
+    say(b"least + 1", add_one(u32::MIN) == u32::MIN + 1);
+    say(b"up to greatest", add_one(u32::MAX - 1) == u32::MAX);
+    say(b"greatest - 1", sub_one(u32::MAX) == u32::MAX - 1);
+    say(b"down to least", sub_one(u32::MIN + 1) == u32::MIN);
+}
+
+pub fn checked_steps() {
+    say(
+        b"after least",
+        is_at(checked_add_one(u32::MIN), u32::MIN + 1),
+    );
+    say(
+        b"to greatest",
+        is_at(checked_add_one(u32::MAX - 1), u32::MAX),
+    );
+    say(b"past greatest", is_past(checked_add_one(u32::MAX)));
+}
+
+fn is_at(n: Next, a: u32) -> bool {
+    match n {
+        Next::At(b) => b == a,
+        Next::Past => false,
+    }
+}
+
+fn is_past(n: Next) -> bool {
+    match n {
+        Next::At(_) => false,
+        Next::Past => true,
+    }
+}
