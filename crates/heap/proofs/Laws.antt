@@ -16,9 +16,9 @@ by-eq {C} a b f g = pick (ℕ-discrete a b)
     pick (no h) = g h
 
 -- ranks are in the order of (key, list)
-pub rank-le : {a b x y : ℕ} → x < 256 → y < 256 → rank a x ≤ rank b y → (a ≤ b) × (a ≡ b → x ≤ y)
+pub rank-le : {a b x y : ℕ} → y < 256 → rank a x ≤ rank b y → (a ≤ b) × (a ≡ b → x ≤ y)
 unfolding rank
-rank-le f g h = (omega arith, λ e. omega arith)
+rank-le f h = (omega arith, λ e. omega arith)
 
 -- two entries of one rank are the same entry
 pub rank-one : {a b x y : ℕ} → x < 256 → y < 256 → rank a x ≡ rank b y → (a ≡ b) × (x ≡ y)
