@@ -1,0 +1,24 @@
+-- `step` meets its contract. Assumes nothing.
+use mathlib.Core.Logic.{inl, inr, ⊎-elim}
+use native.Mathlib.Omega.{arith}
+use borrow.Author.Needs.{needs}
+use Rattle.multiway_sweep.proofs.Steps.{ends-heap, end-taken, nothing-left}
+use Rattle.multiway_sweep.proofs.seat.step.Statement.{statement}
+use Rattle.multiway_sweep.proofs.seat.step.Tie as tie
+
+pub step-spec : {M : Type 1} → statement M
+step-spec =
+    tie.close
+    (tie.spec
+    (λ c. search needs)
+    (λ c. search needs)
+    (λ c κs. search needs)
+    (λ c. search needs)
+    (λ c. search needs)
+    (λ c κs. search needs)
+    (λ c κs. (ends-heap (c .before .before .before .before .before .before .before .before .before .before .before .pre .1), c .before .before .before .before .before .before .end-first .ensures .yes (c .before .before .before .before .before .if1 .taken) .0))
+    (λ c. c .before .before .before .before .before .before .before .before .end-first .ensures .yes (c .before .before .before .before .before .before .before .if1 .taken) .0)
+    (λ c rest g. end-taken g (c .before .before .before .before .wide .ensures) (c .before .before .before .before .before .before .before .before .end-first .ensures .yes (c .before .before .before .before .before .before .before .if1 .taken)) (c .before .pop .ensures))
+    (λ c rest g. nothing-left g (c .if2 .taken) (⊎-elim (λ h. h) (λ h. absurd (omega arith)) (c .before .before .before .end-first .ensures .no (c .before .before .if1 .left))))
+    (λ c κs. (c .before .before .before .before .before .before .before .before .before .before .before .before .before .pre, (omega arith, ⊎-elim inl (λ h. inr (h .1)) (c .before .before .before .before .before .before .before .before .end-first .ensures .no (c .before .before .before .before .before .before .before .if1 .left)))))
+    (λ c. search needs))

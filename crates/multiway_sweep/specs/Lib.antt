@@ -1,0 +1,5 @@
+pub mod Lanes
+pub mod Cursors
+pub mod Front
+pub mod Stands
+pub mod Steps

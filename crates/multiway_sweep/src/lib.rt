@@ -1,0 +1,51 @@
+pub mod instant;
+pub mod seat;
+
+ghost use mathlib.Core.Path.{_≡_};
+ghost use Prim.Native.Nat.{_<_};
+ghost use Rattle.multiway_sweep.specs.Steps.{EndFirst};
+
+pub struct Range {
+    pub start: u64,
+    pub end: u64,
+}
+
+// One list's range starting or ending.
+pub enum Event {
+    // The range, its list and its value.
+    Start(Range, usize, i32),
+    // The last point of the list's active range, and the list.
+    End(u64, usize),
+}
+
+// How many entries the two heaps have.
+pub struct Sizes {
+    pub starts: usize,
+    pub active_ends: usize,
+}
+
+// The next event, with the sizes of the heaps after it, or nothing is left.
+pub enum Step {
+    Next(Event, Sizes),
+    Done,
+}
+
+// Whether the earliest end comes before the next start: it closes first exactly when it is less.
+fn end_first(sizes: Sizes, start: u64, end: u64) -> bool
+    ensures { λ r. ⌜ EndFirst sizes start end r ⌝ }
+{
+    if sizes.active_ends == 0 {
+        return false;
+    }
+    if sizes.starts == 0 {
+        return true;
+    }
+    end < start
+}
+
+// A list's index as the heaps hold it.
+fn wide(list: u8) -> usize
+    ensures { λ r. ⌜ (r ≡ list) × (r < 256) ⌝ }
+{
+    list as usize
+}
