@@ -4,3 +4,4 @@ pub mod Front
 pub mod Holds
 pub mod Stands
 pub mod Steps
+pub mod Filled

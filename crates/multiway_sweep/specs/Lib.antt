@@ -3,3 +3,5 @@ pub mod Cursors
 pub mod Front
 pub mod Stands
 pub mod Steps
+pub mod Begins
+pub mod Sweeps

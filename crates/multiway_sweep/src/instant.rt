@@ -1,7 +1,10 @@
+use crate::Advance;
 use crate::Event;
 use crate::Range;
 use crate::Sizes;
 use crate::Step;
+use crate::Sweep;
+use crate::Yield;
 use crate::end_first;
 use crate::wide;
 use heap::pop;
@@ -14,10 +17,12 @@ ghost use mathlib.Core.List.{List};
 ghost use mathlib.Core.Logic.{_⊎_};
 ghost use mathlib.Core.Path.{_≡_};
 ghost use lib.IntN.{ℤ};
-ghost use lib.ListN.{getD};
-ghost use Rattle.rules.specs.Lists.{instants};
+ghost use lib.ListN.{length, getD};
+ghost use Rattle.rules.specs.Lists.{instants, total};
 ghost use Rattle.rules.specs.Sweep as rules;
 ghost use Rattle.multiway_sweep.specs.Steps.{columns, arrays, Sweeping, Stepped};
+ghost use Rattle.multiway_sweep.specs.Sweeps.{arrays-of, Advanced};
+ghost use Rattle.multiway_sweep.specs.Begins.{Fillable, Filled, Begins};
 
 // The start on top, which is the next event: its range becomes active, and its list goes on to the range after it.
 fn take_start(
@@ -125,4 +130,111 @@ pub fn step(
         end_lists,
         sizes,
     )
+}
+
+// Lays the cursors of the lists that the counts tell, and the heap of their first starts, and answers its size.
+pub fn fill(
+    starts: &[Point],
+    counts: &[u32],
+    stops: &mut [usize; 16],
+    next: &mut [usize; 16],
+    start_keys: &mut [u64; 16],
+    start_lists: &mut [u8; 16],
+) -> usize
+    requires { ⌜ Fillable (length (now starts)) (now counts) (now next) (now stops) (now «start_keys») (now «start_lists») ⌝ }
+    ensures { λ r. ⌜ Filled instants (now (starts .entry)) (now (counts .entry)) (now (next .exit)) (now (stops .exit)) (now («start_keys» .exit)) (now («start_lists» .exit)) r ⌝ }
+{
+    let mut size: usize = 0;
+    let mut from: usize = 0;
+    let mut k: usize = 0;
+    while k < counts.len() {
+        let stop = from + counts[k] as usize;
+        next[k] = from;
+        stops[k] = stop;
+        if from < stop {
+            push(start_keys, start_lists, size, key_at(starts, from), k as u8);
+            size += 1;
+        }
+        from = stop;
+        k += 1;
+    }
+    size
+}
+
+// A sweep over the lists that the counts tell.
+pub fn new(starts: &[Point], counts: &[u32]) -> Sweep
+    requires { ⌜ (length (now counts) ≤ 16) × (total (now counts) ≡ length (now starts)) ⌝ }
+    ensures { λ r. ⌜ Begins instants (now (starts .entry)) (now (counts .entry)) (arrays-of r) (r .sizes) ⌝ }
+{
+    let mut stops: [usize; 16] = [0; 16];
+    let mut next: [usize; 16] = [0; 16];
+    let mut start_keys: [u64; 16] = [0; 16];
+    let mut start_lists: [u8; 16] = [0; 16];
+    let end_keys: [u64; 16] = [0; 16];
+    let end_lists: [u8; 16] = [0; 16];
+    let size = fill(
+        starts,
+        counts,
+        &mut stops,
+        &mut next,
+        &mut start_keys,
+        &mut start_lists,
+    );
+    Sweep {
+        next,
+        stops,
+        start_keys,
+        start_lists,
+        end_keys,
+        end_lists,
+        sizes: Sizes {
+            starts: size,
+            active_ends: 0,
+        },
+    }
+}
+
+// The next event of a sweep, and the sweep after it.
+pub fn next(starts: &[Point], ends: &[Point], values: &[i32], sweep: Sweep) -> Advance
+    requires { ⌜ ((rest : List (rules.Event ℤ)) × Sweeping instants (columns (now starts) (now ends) (now values)) (arrays-of sweep) (sweep .sizes) rest) ⌝ }
+    ensures { λ r.
+        let c = columns (now (starts .entry)) (now (ends .entry)) (now (values .entry)) in
+        ⌜ ((rest : List (rules.Event ℤ)) → Sweeping instants c (arrays-of sweep) (sweep .sizes) rest → Advanced instants c sweep rest r) ⌝ }
+{
+    let stops = sweep.stops;
+    let mut next = sweep.next;
+    let mut start_keys = sweep.start_keys;
+    let mut start_lists = sweep.start_lists;
+    let mut end_keys = sweep.end_keys;
+    let mut end_lists = sweep.end_lists;
+    let taken = step(
+        starts,
+        ends,
+        values,
+        &stops,
+        &mut next,
+        &mut start_keys,
+        &mut start_lists,
+        &mut end_keys,
+        &mut end_lists,
+        sweep.sizes,
+    );
+    let Step::Next(event, sizes) = taken else {
+        return Advance {
+            yields: Yield::Nothing,
+            sweep,
+        };
+    };
+    Advance {
+        yields: Yield::Event(event),
+        sweep: Sweep {
+            next,
+            stops,
+            start_keys,
+            start_lists,
+            end_keys,
+            end_lists,
+            sizes,
+        },
+    }
 }

@@ -30,6 +30,29 @@ pub enum Step {
     Done,
 }
 
+// Where a sweep stands: of each list the place of its next range and the place past its last, a heap of the starts of the
+// next ranges, and a heap of the ends of the active ones.
+pub struct Sweep {
+    next: [usize; 16],
+    stops: [usize; 16],
+    start_keys: [u64; 16],
+    start_lists: [u8; 16],
+    end_keys: [u64; 16],
+    end_lists: [u8; 16],
+    sizes: Sizes,
+}
+
+// What a sweep has next: an event, or nothing is left.
+pub enum Yield {
+    Event(Event),
+    Nothing,
+}
+
+pub struct Advance {
+    pub yields: Yield,
+    pub sweep: Sweep,
+}
+
 // Whether the earliest end comes before the next start: it closes first exactly when it is less.
 fn end_first(sizes: Sizes, start: u64, end: u64) -> bool
     ensures { λ r. ⌜ EndFirst sizes start end r ⌝ }

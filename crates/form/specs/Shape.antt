@@ -1,0 +1,41 @@
+-- What is judged before the ranges are looked at, and a range as it is judged. Assumes nothing.
+use Prim.Native.Nat.{ℕ, _≤_}
+use mathlib.Core.Bool.{_&&_, not}
+use mathlib.Core.Option.{Option, none, some}
+use mathlib.Core.List.{List}
+use lib.Dec.{ltb, eqb}
+use lib.ListN.{length}
+use Rattle.rules.specs.Piece.{Piece}
+use Rattle.rules.specs.Lists.{total}
+use Rattle.rules.specs.Answer.{refuse, two-way, unknown-combiner}
+use Rattle.rules.specs.declared.Answer.the-variants.{TooManyLists, NotTwoLists, TooManyRanges, ColumnsDiffer, UnknownCombiner}
+use Rattle.rules.specs.declared.Judgement.{Judgement}
+use Rattle.rules.specs.declared.Judgement.the-variants.{Sound}
+use Rattle.rules.specs.declared.Kind.{Kind}
+use Rattle.form.specs.declared.Prior.{Prior}
+use Rattle.form.specs.declared.Prior.the-variants.{Nothing, End}
+use Rattle.form.specs.declared.Range.{Range}
+
+-- the end of the range before
+abbrev pub ended : Prior → Option ℕ
+ended Nothing = none
+ended (End e) = some e
+
+-- a range with its flat index
+abbrev pub piece : Range → ℕ → Piece ℕ
+piece x i = record { start = x .start; end = x .end; value = i }
+
+-- refusals 1, 2, 4, 3 and 7, by the lengths of starts, ends and values and by the counts
+unfoldable pub judge-shape : Kind → ℕ → ℕ → ℕ → List ℕ → Judgement
+judge-shape k s e v ns =
+    refuse (ltb 16 (length ns)) TooManyLists
+    (refuse (two-way k && not (eqb (length ns) 2)) NotTwoLists
+    (refuse (not (eqb e s && eqb v s && eqb (total ns) s)) ColumnsDiffer
+    (refuse (ltb 2048 s) TooManyRanges
+    (refuse (unknown-combiner k) UnknownCombiner Sound))))
+
+-- the columns reach up to a place
+pub record Long {P : Type 0} {A : Type 0} (starts ends : List P) (values : List A) (stop : ℕ) : Type 0 where
+  pub starts-long : stop ≤ length starts
+  pub ends-long : stop ≤ length ends
+  pub values-long : stop ≤ length values
