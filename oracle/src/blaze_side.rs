@@ -13,39 +13,88 @@ use crate::map::ValueCarrier;
 use crate::scaffold::UncheckedList;
 use crate::{MultiwaySweep, Owned, SweepEvent};
 
-/// The outcome of a call whose lists are well formed and whose combiner is known.
-pub fn outcome<T: Point>(call: &Call<T>) -> Outcome<T> {
-    let pieces = pieces(call.operation, &call.lent);
-    let mut columns = call.columns.clone();
-    let fits = pieces.count() <= columns.room();
-    if fits {
-        write(&pieces, &mut columns);
-    }
-    let answer = Answer::new(if fits { 0 } else { 8 }, pieces.count());
-    Outcome { answer, columns }
+/// What takes the pieces of one operation as the crate's iterators yield them.
+trait Sink<T> {
+    fn event(&mut self, piece: Event<T>);
+    fn sides(&mut self, piece: Sides<T>);
+    fn priced(&mut self, piece: Priced<T>);
 }
 
-/// The pieces that the crate's iterator yields.
+/// The outcome of a call whose lists are well formed and whose combiner is known.
+pub fn outcome<T: Point>(call: &Call<T>) -> Outcome<T> {
+    let count = pieces(call.operation, &call.lent).count();
+    let mut columns = call.columns.clone();
+    let fits = count <= columns.room();
+    if fits {
+        drain(call.operation, &call.lent, &mut columns);
+    }
+    Outcome { answer: Answer::new(if fits { 0 } else { 8 }, count), columns }
+}
+
+/// The pieces that the crate's iterator yields. Over two lists the crate's two-list forms of the
+/// selections must say the same.
 pub fn pieces<T: Point>(operation: Operation, lent: &Lent<T>) -> Pieces<T> {
-    let lists = lists(lent);
+    let mut pieces = Pieces::of(operation);
+    run(operation, lists(lent), &mut pieces);
+    if let Ok([left, right]) = <[_; 2]>::try_from(lists(lent)) {
+        let of_two: Option<Vec<_>> = match operation {
+            Operation::Union => Some(UnionMap::new2(left, right).map(selected).collect()),
+            Operation::SymmetricDifference => {
+                Some(SymmetricDifferenceMap::new2(left, right).map(selected).collect())
+            }
+            _ => None,
+        };
+        if let Some(of_two) = of_two {
+            assert_eq!(Pieces::Priced(of_two), pieces, "the crate's two selections differ");
+        }
+    }
+    pieces
+}
+
+/// Drains the crate's iterator into columns that have room for all of it.
+pub fn drain<T: Point>(operation: Operation, lent: &Lent<T>, columns: &mut Columns<T>) {
+    run(operation, lists(lent), &mut Written { columns, place: 0 });
+}
+
+/// Runs the crate's iterator of an operation to its end.
+fn run<T: Point>(operation: Operation, lists: Vec<UncheckedList<'_, T>>, sink: &mut impl Sink<T>) {
     match operation {
-        Operation::Events => Pieces::Events(MultiwaySweep::new(lists).map(event).collect()),
+        Operation::Events => MultiwaySweep::new(lists).for_each(|piece| sink.event(event(piece))),
         Operation::Inner(combiner) => {
             let combine = |values: &[Owned<i32>]| combined(combiner, values.iter().copied());
-            Pieces::Priced(MultiwayInnerJoinMap::new(lists, combine).map(priced).collect())
+            MultiwayInnerJoinMap::new(lists, combine).for_each(|piece| sink.priced(priced(piece)));
         }
         Operation::Full(combiner) => {
             let combine = |values: &[Option<Owned<i32>>]| {
                 combined(combiner, values.iter().flatten().copied())
             };
-            Pieces::Priced(MultiwayFullJoinMap::new(lists, combine).map(priced).collect())
+            MultiwayFullJoinMap::new(lists, combine).for_each(|piece| sink.priced(priced(piece)));
         }
-        Operation::Union => Pieces::Priced(union(lists)),
-        Operation::SymmetricDifference => Pieces::Priced(symmetric_difference(lists)),
+        Operation::Union => {
+            MultiwayUnionMap::new_k(lists).for_each(|piece| sink.priced(selected(piece)));
+        }
+        Operation::SymmetricDifference => MultiwaySymmetricDifferenceMap::new_k(lists)
+            .for_each(|piece| sink.priced(selected(piece))),
         Operation::TwoWayInner | Operation::TwoWayLeft | Operation::TwoWayFull => {
             let [left, right] = <[_; 2]>::try_from(lists).expect("two lists");
-            Pieces::Sides(two_way(operation, left, right))
+            run_two_way(operation, left, right, sink);
         }
+    }
+}
+
+fn run_two_way<T: Point>(
+    operation: Operation,
+    left: UncheckedList<'_, T>,
+    right: UncheckedList<'_, T>,
+    sink: &mut impl Sink<T>,
+) {
+    match operation {
+        Operation::TwoWayInner => InnerJoinMap::new(left, right)
+            .for_each(|(range, (left, right))| sink.sides(sides(range, Some(left), Some(right)))),
+        Operation::TwoWayLeft => LeftJoinMap::new(left, right)
+            .for_each(|(range, (left, right))| sink.sides(sides(range, Some(left), right))),
+        _ => FullJoinMap::new(left, right)
+            .for_each(|(range, (left, right))| sink.sides(sides(range, left, right))),
     }
 }
 
@@ -56,44 +105,6 @@ fn lists<T: Point>(lent: &Lent<T>) -> Vec<UncheckedList<'_, T>> {
         values: &lent.values[places],
     };
     lent.list_places().into_iter().map(list).collect()
-}
-
-fn two_way<T: Point>(
-    operation: Operation,
-    left: UncheckedList<'_, T>,
-    right: UncheckedList<'_, T>,
-) -> Vec<Sides<T>> {
-    match operation {
-        Operation::TwoWayInner => InnerJoinMap::new(left, right)
-            .map(|(range, (left, right))| sides(range, Some(left), Some(right)))
-            .collect(),
-        Operation::TwoWayLeft => LeftJoinMap::new(left, right)
-            .map(|(range, (left, right))| sides(range, Some(left), right))
-            .collect(),
-        _ => FullJoinMap::new(left, right)
-            .map(|(range, (left, right))| sides(range, left, right))
-            .collect(),
-    }
-}
-
-/// The union of any number of lists. Over two, the crate's two-list form must say the same.
-fn union<T: Point>(lists: Vec<UncheckedList<'_, T>>) -> Vec<Priced<T>> {
-    let pieces = MultiwayUnionMap::new_k(lists.clone()).map(selected).collect();
-    if let Ok([left, right]) = <[_; 2]>::try_from(lists) {
-        let of_two: Vec<_> = UnionMap::new2(left, right).map(selected).collect();
-        assert_eq!(of_two, pieces, "the crate's two unions differ");
-    }
-    pieces
-}
-
-/// The symmetric difference, likewise.
-fn symmetric_difference<T: Point>(lists: Vec<UncheckedList<'_, T>>) -> Vec<Priced<T>> {
-    let pieces = MultiwaySymmetricDifferenceMap::new_k(lists.clone()).map(selected).collect();
-    if let Ok([left, right]) = <[_; 2]>::try_from(lists) {
-        let of_two: Vec<_> = SymmetricDifferenceMap::new2(left, right).map(selected).collect();
-        assert_eq!(of_two, pieces, "the crate's two symmetric differences differ");
-    }
-    pieces
 }
 
 /// The numbered combiners as what a caller of the crate would pass in a closure.
@@ -151,33 +162,60 @@ fn presence<T>(piece: &Sides<T>) -> u8 {
     }
 }
 
-/// Writes the pieces one by one from the front.
-fn write<T: Point>(pieces: &Pieces<T>, columns: &mut Columns<T>) {
-    match (pieces, columns) {
-        (Pieces::Events(pieces), Columns::Events { kinds, points, lists, values }) => {
-            for (place, piece) in pieces.iter().enumerate() {
-                kinds[place] = piece.kind;
-                points[place] = piece.point;
-                lists[place] = piece.list;
-                values[place] = piece.value;
-            }
+impl<T> Sink<T> for Pieces<T> {
+    fn event(&mut self, piece: Event<T>) {
+        if let Self::Events(pieces) = self {
+            pieces.push(piece);
         }
-        (Pieces::Sides(pieces), Columns::Sides { starts, ends, lefts, rights, presences }) => {
-            for (place, piece) in pieces.iter().enumerate() {
-                starts[place] = piece.start;
-                ends[place] = piece.end;
-                lefts[place] = piece.left.unwrap_or(0);
-                rights[place] = piece.right.unwrap_or(0);
-                presences[place] = presence(piece);
-            }
+    }
+
+    fn sides(&mut self, piece: Sides<T>) {
+        if let Self::Sides(pieces) = self {
+            pieces.push(piece);
         }
-        (Pieces::Priced(pieces), Columns::Priced { starts, ends, values }) => {
-            for (place, piece) in pieces.iter().enumerate() {
-                starts[place] = piece.start;
-                ends[place] = piece.end;
-                values[place] = piece.value;
-            }
+    }
+
+    fn priced(&mut self, piece: Priced<T>) {
+        if let Self::Priced(pieces) = self {
+            pieces.push(piece);
         }
-        _ => panic!("the columns are another operation's"),
+    }
+}
+
+/// Columns, and the place for the next piece.
+struct Written<'a, T> {
+    columns: &'a mut Columns<T>,
+    place: usize,
+}
+
+impl<T: Point> Sink<T> for Written<'_, T> {
+    fn event(&mut self, piece: Event<T>) {
+        if let Columns::Events { kinds, points, lists, values } = self.columns {
+            kinds[self.place] = piece.kind;
+            points[self.place] = piece.point;
+            lists[self.place] = piece.list;
+            values[self.place] = piece.value;
+            self.place += 1;
+        }
+    }
+
+    fn sides(&mut self, piece: Sides<T>) {
+        if let Columns::Sides { starts, ends, lefts, rights, presences } = self.columns {
+            starts[self.place] = piece.start;
+            ends[self.place] = piece.end;
+            lefts[self.place] = piece.left.unwrap_or(0);
+            rights[self.place] = piece.right.unwrap_or(0);
+            presences[self.place] = presence(&piece);
+            self.place += 1;
+        }
+    }
+
+    fn priced(&mut self, piece: Priced<T>) {
+        if let Columns::Priced { starts, ends, values } = self.columns {
+            starts[self.place] = piece.start;
+            ends[self.place] = piece.end;
+            values[self.place] = piece.value;
+            self.place += 1;
+        }
     }
 }

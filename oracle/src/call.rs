@@ -202,6 +202,15 @@ pub enum Pieces<T> {
 }
 
 impl<T> Pieces<T> {
+    /// No pieces yet of an operation.
+    pub fn of(operation: Operation) -> Self {
+        match operation.column_count() {
+            4 => Self::Events(Vec::new()),
+            5 => Self::Sides(Vec::new()),
+            _ => Self::Priced(Vec::new()),
+        }
+    }
+
     pub fn count(&self) -> usize {
         match self {
             Self::Events(pieces) => pieces.len(),

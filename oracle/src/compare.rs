@@ -4,6 +4,7 @@ use std::panic::{AssertUnwindSafe, catch_unwind};
 
 use crate::call::{Operation, Outcome, Point};
 use crate::case::{Case, Due};
+use crate::rattle_side::{self, Proved};
 use crate::small_lists::{Universe, every_set};
 use crate::{answers, blaze_side, boundary, faults, generator, reading, text};
 
@@ -60,7 +61,7 @@ pub fn run(plan: Plan) -> Result<u64, String> {
     Ok(cases + listed)
 }
 
-fn run_width<T: Point>(plan: Plan) -> Result<u64, String> {
+fn run_width<T: Proved>(plan: Plan) -> Result<u64, String> {
     let mut all = 0;
     for (name, cases) in parts::<T>(plan) {
         let mut count = 0;
@@ -97,9 +98,12 @@ fn parts<T: Point>(plan: Plan) -> Vec<Part<T>> {
 }
 
 /// Holds the outcome that is due for a case against the reading.
-fn check<T: Point>(case: &Case<T>) -> Result<(), String> {
+fn check<T: Proved>(case: &Case<T>) -> Result<(), String> {
     let call = &case.call;
     let read = guarded("reading", || reading::outcome(call))?;
+    if let Some(proved) = rattle_side::outcome(call) {
+        agree("library", &proved, &read)?;
+    }
     match &case.due {
         Due::TheCrate => agree("crate", &guarded("crate", || blaze_side::outcome(call))?, &read),
         Due::Refused(answer) => {

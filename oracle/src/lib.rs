@@ -16,6 +16,7 @@ pub mod compare;
 pub mod faults;
 pub mod generator;
 pub mod random;
+pub mod rattle_side;
 pub mod reading;
 pub mod small_lists;
 pub mod text;

@@ -46,7 +46,7 @@ module _ {A : Type 0} (s e : ℕ → ℕ) (v : ℕ → A) where
   cut-at p zero m (n ∷ ns) q = let z : m ≡ p = omega arith in rw z
   cut-at p (suc i) m (n ∷ ns) q = cut-at (p + n) i m ns (omega arith)
 
-  cut-length : (p : ℕ) (ns : List ℕ) → length (cut s e v p ns) ≡ length ns
+  pub cut-length : (p : ℕ) (ns : List ℕ) → length (cut s e v p ns) ≡ length ns
   cut-length p [] = refl
   cut-length p (n ∷ ns) = ap suc (cut-length (p + n) ns)
 

@@ -15,7 +15,8 @@ use Rattle.two_way.specs.Sides.{side, onward, Two, start-at, end-at, sto
 use Rattle.two_way.specs.Steps.{Fresh, high, Ready, Covers, Stepped}
 use Rattle.two_way.specs.declared.Side.{Side}
 use Rattle.two_way.specs.declared.Cursor.{Cursor}
-use Rattle.two_way.specs.declared.Step.the-variants.{Done}
+use Rattle.two_way.specs.declared.Step.{Step}
+use Rattle.two_way.specs.declared.Step.the-variants.{Piece as Next, Done}
 use Rattle.two_way.proofs.Peel.{none-some, said, pair-none, pair-same}
 use Rattle.two_way.proofs.Sides.{side-done, side-fresh, side-order, side-upto, side-from, side-early, side-in, side-after, side-ends, onward-within}
 use Rattle.two_way.proofs.Emit.{Emits, said-none}
@@ -202,6 +203,11 @@ stay o r = record { ready = r; same = refl }
 
 pub instead : {P : Type 0} {t : Two P} {o : Pairing} {b c d : Cursor} → Instead t o b c → Instead t o c d → Instead t o b d
 instead f g = record { ready = g .ready; same = f .same ∙ g .same }
+
+-- a step from there is a step from c
+pub instead-step : {P : Type 0} {t : Two P} {o : Pairing} {c d : Cursor} → Instead t o c d → (r : Step) → Stepped t o d r → Stepped t o c r
+instead-step f Done s = f .same ∙ s
+instead-step f (Next y k) s = record { next = f .same ∙ s .next; ready = s .ready; fits = s .fits }
 
 -- an operation that keeps nothing without the left, and without the right
 abbrev pub WantsLeft : Pairing → Type 0

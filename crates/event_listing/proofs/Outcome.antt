@@ -1,0 +1,45 @@
+-- From the judgement of what is lent to the outcome of the event listing. Assumes nothing.
+use Prim.Native.Nat.{ℕ, _*_, _≤_, _<_}
+use mathlib.Core.Path.{_≡_, sym, _∙_}
+use native.Mathlib.Omega.{arith}
+use lib.ListN.{length}
+use borrow.Author.Tests.{le-leb, lt-leb}
+use Rattle.rules.specs.Lists.{Width, Lent, keys}
+use Rattle.rules.specs.Answer.{judge}
+use Rattle.rules.specs.Outcomes.{Listed, listed-room, listing}
+use Rattle.rules.specs.declared.Answer.{Answer}
+use Rattle.rules.specs.declared.Answer.the-variants.{Done, NoRoom}
+use Rattle.rules.specs.declared.Judgement.{Judgement}
+use Rattle.rules.specs.declared.Judgement.the-variants.{Sound, Refused}
+use Rattle.rules.specs.declared.Kind.the-variants.{Listing}
+use Rattle.form.proofs.Sound.{Formed, sound}
+use Rattle.event_listing.specs.Listing.{leaves, all, Listable, Wrote}
+use Rattle.event_listing.proofs.Rows.{events-count}
+
+module _ {P : Type 0} (w : Width P) (l : Lent P) {f : Judgement} (found : f ≡ judge w Listing l) where
+  pub refused : {a : Answer} {c : Listed P} → f ≡ Refused a → leaves a c ≡ listing w l c
+  unfolding listing
+  refused q = let h = sym found ∙ q in rw h
+
+  -- nothing is refused, and the ends have keys
+  module _ (q : f ≡ Sound) (low : (i : ℕ) → i < length (l .ends) → keys w (l .ends) i < w .points) where
+    h : judge w Listing l ≡ Sound
+    h = sym found ∙ q
+
+    formed : Formed w Listing l
+    formed = sound w Listing l found q low
+
+    count : length (all w l) ≡ 2 * length (l .starts)
+    count = events-count w l (formed .fit .agree)
+
+    module _ (c : Listed P) {room : ℕ} (r : room ≡ listed-room w c) where
+      pub no-room : room < 2 * length (l .starts) → leaves (NoRoom (2 * length (l .starts))) c ≡ listing w l c
+      unfolding listing
+      no-room m = rw (h, lt-leb (length (all w l)) (listed-room w c) (omega (arith, count)), count)
+
+      pub listable : 2 * length (l .starts) ≤ room → Listable w l c
+      listable m = record { lists-few = formed .fit .lists-few; ranges-few = formed .fit .ranges-few; agree = formed .fit .agree; formed = formed .lists-formed; room = omega (arith, count) }
+
+      pub written : 2 * length (l .starts) ≤ room → {d : Listed P} → Wrote w l c d → leaves (Done (2 * length (l .starts))) d ≡ listing w l c
+      unfolding listing
+      written m o = rw (h, le-leb (length (all w l)) (listed-room w c) (omega (arith, count)), o .is, count)

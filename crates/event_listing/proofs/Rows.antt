@@ -1,0 +1,147 @@
+-- Events written at the front of columns, one after the other. Assumes nothing.
+use Prim.Native.Nat.{ℕ, suc, _+_, _*_, _≤_, _<_}
+use mathlib.Core.Path.{_≡_, refl, sym, ap, _∙_}
+use mathlib.Core.List.{List, [], _∷_, _++_, map, append-assoc}
+use native.Mathlib.Omega.{arith}
+use native.Mathlib.Numerals.{add-one}
+use lib.IntN.{ℤ, pos}
+use lib.ListN.{length, getD, take, drop, set, length-append, length-take, length-drop, length-map, take-append-drop}
+use lib.Seq.{take-suc, drop-cons, set-at, take-all, length-take-le}
+use Rattle.heap.specs.Heap.{held, Whole}
+use Rattle.rules.specs.Piece.{Piece, Within, AllWellFormed}
+use Rattle.rules.specs.Lists.{Width, Lent, cut, total, keys, lists}
+use Rattle.rules.specs.Answer.{front}
+use Rattle.rules.specs.Sweep.{Event, point, kind, list, own, listed, events, All}
+use Rattle.rules.specs.Outcomes.{Listed, event-value, listed-room, lay-listed}
+use Rattle.rules.specs.Refusals.{Agree}
+use Rattle.rules.specs.Proving.Below.{size}
+use Rattle.rules.proofs.At.{within-le}
+use Rattle.rules.proofs.Columns.{length-ranges}
+use Rattle.rules.proofs.Sweep.{all-map, all-append, all-right, all-sort, events-length}
+use Rattle.multiway_sweep.specs.Steps.{Arrays, columns as swept, arrays, Sweeping}
+use Rattle.multiway_sweep.specs.Begins.{Filled}
+use Rattle.multiway_sweep.specs.declared.Sizes.{Sizes}
+use Rattle.multiway_sweep.proofs.Filled.{cut-length}
+use Rattle.event_listing.specs.Listing.{columns, RowOf, all, Writable, put-row, Put, Listable, Wrote}
+use Rattle.event_listing.specs.declared.Row.{Row}
+
+pub row-put : {P : Type 0} {w : Width P} {n : ℕ} {e : Event ℤ} {r : Row} {c : Listed P} → RowOf e r → {ps : List P} {v : ℤ} → ps ≡ set (c .point) n (w .point (r .key)) → v ≡ r .value → Put w n e c (columns (set (c .kind) n (r .kind)) ps (set (c .list) n (r .list)) (set (c .value) n v))
+row-put o p v = record { is = rw (p, v, o .kind, o .key, o .list, o .value) }
+
+-- a list of which x stands at n
+module _ {R : Type 0} (l : List R) (n : ℕ) (x : R) (xs : List R) (e : drop n l ≡ x ∷ xs) where
+  drop-lt : n < length l
+  drop-lt = omega (arith, sym (length-drop n l) ∙ ap length e)
+
+  parted : getD l n x ∷ drop (suc n) l ≡ x ∷ xs
+  parted = sym (drop-cons l n x drop-lt) ∙ e
+
+  drop-more : drop (n + 1) l ≡ xs
+  drop-more = let h = parted in rw add-one (cc)
+
+  take-more : take (n + 1) l ≡ take n l ++ (x ∷ [])
+  take-more = let h = parted in let g : getD l n x ≡ x = cc in rw (add-one, take-suc l n x drop-lt, g)
+
+  module _ {A : Type 0} (f : R → A) (old : List A) (h : length l ≤ length old) where
+    map-snoc : (rs : List R) → map f (rs ++ (x ∷ [])) ≡ map f rs ++ (f x ∷ [])
+    map-snoc [] = refl
+    map-snoc (r ∷ rs) = ap (λ (l : List A). f r ∷ l) (map-snoc rs)
+
+    -- it is written after those before it
+    front-more : set (front f (take n l) old) n (f x) ≡ front f (take (n + 1) l) old
+    front-more =
+        let z : length (take n l) ≡ n = length-take-le n l (omega (arith, drop-lt)) in
+        let p : length (map f (take n l)) ≡ n = length-map (take n l) f ∙ z in
+        let q : length (take n l ++ (x ∷ [])) ≡ suc n = length-append (take n l) (x ∷ []) ∙ ap (λ (k : ℕ). k + 1) z ∙ add-one n in
+        rw (take-more, z, drop-cons old n (f x) (omega (arith, drop-lt)), q, map-snoc, append-assoc) (set-at (map f (take n l)) (getD old n (f x)) (drop (suc n) old) (f x) n p)
+
+front-long : {R A : Type 0} (f : R → A) (l : List R) (n : ℕ) (old : List A) → length l ≤ length old → length (front f (take n l) old) ≡ length old
+front-long f l n old h = simp (length-append, length-map, length-drop, length-take) (omega arith)
+
+module _ {A : Type 0} where
+  -- an event's point is one of n, and its list one of m
+  abbrev Small : ℕ → ℕ → Event A → Type 0
+  Small n m e = (point e < n) × (list e < m)
+
+  own-small : (k b n : ℕ) (l : List (Piece A)) → Within b n l → All (λ e. (point e < n) × (list e ≡ k)) (own k l)
+  own-small k b n [] w = tt
+  own-small k b n (x ∷ xs) w = let h = within-le (x .end + 1) n xs (w .2) in ((omega arith, refl), ((omega arith, refl), own-small k (x .end + 1) n xs (w .2)))
+
+  listed-small : (k n m : ℕ) (ls : List (List (Piece A))) → AllWellFormed n ls → k + length ls ≤ m → All (Small n m) (listed k ls)
+  listed-small k n m [] w h = tt
+  listed-small k n m (l ∷ ls) w h = all-append _ (own k l) (listed (suc k) ls) (all-map (λ e s. (s .0, omega (arith, s .1))) (own k l) (own-small k 0 n l (w .0))) (listed-small (suc k) n m ls (w .1) (omega arith))
+
+  events-small : (n : ℕ) (ls : List (List (Piece A))) → AllWellFormed n ls → All (Small n (length ls)) (events ls)
+  unfolding events
+  events-small n ls w = all-sort _ (listed 0 ls) (listed-small 0 n (length ls) ls w (omega arith))
+
+-- columns of the same lengths
+pub record Long {P : Type 0} (c d : Listed P) : Type 0 where
+  pub kind : length (d .kind) ≡ length (c .kind)
+  pub point : length (d .point) ≡ length (c .point)
+  pub list : length (d .list) ≡ length (c .list)
+  pub value : length (d .value) ≡ length (c .value)
+
+-- n ranges give 2n events
+size-cut : {A : Type 0} (s e : ℕ → ℕ) (v : ℕ → A) (i : ℕ) (ns : List ℕ) → size (cut s e v i ns) ≡ total ns
+size-cut s e v i [] = refl
+size-cut s e v i (n ∷ ns) = omega (arith, length-ranges s e v i n, size-cut s e v (i + n) ns)
+
+pub events-count : {P : Type 0} (w : Width P) (l : Lent P) → Agree l → length (all w l) ≡ 2 * length (l .starts)
+events-count w l g = events-length (lists w l) ∙ ap (λ n. 2 * n) (size-cut (keys w (l .starts)) (keys w (l .ends)) (λ i. getD (l .values) i (pos 0)) 0 (l .counts) ∙ g .adds-up)
+
+lists-length : {P : Type 0} (w : Width P) (l : Lent P) → length (lists w l) ≡ length (l .counts)
+lists-length w l = cut-length (keys w (l .starts)) (keys w (l .ends)) (λ i. getD (l .values) i (pos 0)) 0 (l .counts)
+
+-- n events are written, and a sweep stands before the rest
+pub record Written {P : Type 0} (w : Width P) (l : Lent P) (c d : Listed P) (a : Arrays) (z : Sizes) (n : ℕ) : Type 0 where
+  pub listable : Listable w l c
+  pub sweeping : Sweeping w (swept (l .starts) (l .ends) (l .values)) a z (drop n (all w l))
+  pub laid : d ≡ lay-listed w (take n (all w l)) c
+
+module _ {P : Type 0} {w : Width P} {l : Lent P} {c : Listed P} where
+  pub written-none : Listable w l c → {next stops start-keys start-lists end-keys end-lists : List ℕ} {size : ℕ} → Filled w (l .starts) (l .counts) next stops start-keys start-lists size → Whole (held end-keys end-lists) → Written w l c c (arrays next stops start-keys start-lists end-keys end-lists) (record { starts = size; «active_ends» = 0 }) 0
+  written-none g f whole = record { listable = g; sweeping = f _ _ whole (l .ends) (l .values) (sym (g .agree .values-long)) (g .agree .ends-long ∙ sym (g .agree .values-long)) (g .formed); laid = refl }
+
+  module _ {d : Listed P} {a : Arrays} {z : Sizes} {n : ℕ} (f : Written w l c d a z n) where
+    abbrev room : length (all w l) ≤ listed-room w c
+    room = f .listable .room
+
+    pub written-long : Long c d
+    written-long = rw (f .laid) (let h = room in record {
+      kind = front-long kind (all w l) n (c .kind) (omega arith);
+      point = front-long (λ x. w .point (point x)) (all w l) n (c .point) (omega arith);
+      list = front-long list (all w l) n (c .list) (omega arith);
+      value = front-long event-value (all w l) n (c .value) (omega arith);
+    })
+
+    pub written-last : drop n (all w l) ≡ [] → Wrote w l c d
+    written-last e = record { is = f .laid ∙ ap (λ es. lay-listed w es c) (take-all n (all w l) (omega (arith, sym (length-drop n (all w l)) ∙ ap length e))) }
+
+    -- an event is next, and a sweep stands before what is left then
+    module _ {e : Event ℤ} {b : Arrays} {y : Sizes} (s : (rest : List (Event ℤ)) × (drop n (all w l) ≡ e ∷ rest) × Sweeping w (swept (l .starts) (l .ends) (l .values)) b y rest) where
+      pub written-lt : n < length (all w l)
+      written-lt = drop-lt (all w l) n e (s .0) (s .1)
+
+      pub written-few : n < 4096
+      written-few = omega (arith, written-lt, events-count w l (f .listable .agree), f .listable .ranges-few)
+
+      small : Small (w .points) (length (lists w l)) e
+      small = all-right (Small (w .points) (length (lists w l))) (take n (all w l)) (e ∷ s .0) (rw (sym (s .1), take-append-drop n (all w l)) (events-small (w .points) (lists w l) (f .listable .formed))) .0
+
+      pub written-row : Writable w n e d
+      written-row = record {
+        room = let h = written-long in omega (arith, written-lt, room);
+        point = small .0;
+        list = omega (arith, small .1, lists-length w l, f .listable .lists-few);
+      }
+
+      pub written-more : {d' : Listed P} → Put w n e d d' → Written w l c d' b y (n + 1)
+      written-more p = record {
+        listable = f .listable;
+        sweeping = rw (drop-more (all w l) n e (s .0) (s .1)) (s .2);
+        laid = let h = room in p .is ∙ ap (put-row w n e) (f .laid) ∙ (λ i. columns (more kind (c .kind) (omega arith) i) (more (λ x. w .point (point x)) (c .point) (omega arith) i) (more list (c .list) (omega arith) i) (more event-value (c .value) (omega arith) i));
+      }
+        where
+          more : {A : Type 0} (f : Event ℤ → A) (old : List A) → length (all w l) ≤ length old → set (front f (take n (all w l)) old) n (f e) ≡ front f (take (n + 1) (all w l)) old
+          more f old h = front-more (all w l) n e (s .0) (s .1) f old h

@@ -1,0 +1,61 @@
+-- What the contracts of the event listing say of columns: the events stand at their front. Assumes nothing.
+use Prim.Native.Nat.{ℕ, _≤_, _<_}
+use mathlib.Core.Path.{_≡_}
+use mathlib.Core.List.{List}
+use lib.IntN.{ℤ}
+use lib.ListN.{length, set}
+use Rattle.rules.specs.Piece.{AllWellFormed}
+use Rattle.rules.specs.Lists.{Width, Lent, lists}
+use Rattle.rules.specs.Answer.{Outcome}
+use Rattle.rules.specs.Refusals.{Agree}
+use Rattle.rules.specs.Sweep.{Event, point, kind, list, events}
+use Rattle.rules.specs.Outcomes.{Listed, event-value, listed-room, lay-listed}
+use Rattle.rules.specs.declared.Answer.{Answer}
+use Rattle.event_listing.specs.declared.Row.{Row}
+
+-- what is lent, the four columns, and what a call leaves
+abbrev pub lent : {P : Type 0} → List P → List P → List ℤ → List ℕ → Lent P
+lent s e v n = record { starts = s; ends = e; values = v; counts = n }
+
+abbrev pub columns : {P : Type 0} → List ℕ → List P → List ℕ → List ℤ → Listed P
+columns k p l v = record { kind = k; point = p; list = l; value = v }
+
+abbrev pub leaves : {C : Type 0} → Answer → C → Outcome C
+leaves a c = record { answer = a; columns = c }
+
+-- the row of an event
+pub record RowOf (e : Event ℤ) (r : Row) : Type 0 where
+  pub kind : r .kind ≡ kind e
+  pub key : r .key ≡ point e
+  pub list : r .list ≡ list e
+  pub value : r .value ≡ event-value e
+
+module _ {P : Type 0} (w : Width P) where
+  -- the events of the lists
+  abbrev pub all : Lent P → List (Event ℤ)
+  all l = events (lists w l)
+
+  -- there is a place for an event, whose point and list can be written
+  pub record Writable (n : ℕ) (e : Event ℤ) (c : Listed P) : Type 0 where
+    pub room : n < listed-room w c
+    pub point : point e < w .points
+    pub list : list e < 256
+
+  -- the columns with an event at place n
+  abbrev pub put-row : ℕ → Event ℤ → Listed P → Listed P
+  put-row n e c = columns (set (c .kind) n (kind e)) (set (c .point) n (w .point (point e))) (set (c .list) n (list e)) (set (c .value) n (event-value e))
+
+  pub record Put (n : ℕ) (e : Event ℤ) (c d : Listed P) : Type 0 where
+    pub is : d ≡ put-row n e c
+
+  -- lists that are judged sound, and room for their events
+  pub record Listable (l : Lent P) (c : Listed P) : Type 0 where
+    pub lists-few : length (l .counts) ≤ 16
+    pub ranges-few : length (l .starts) ≤ 2048
+    pub agree : Agree l
+    pub formed : AllWellFormed (w .points) (lists w l)
+    pub room : length (all l) ≤ listed-room w c
+
+  -- all events are written
+  pub record Wrote (l : Lent P) (c d : Listed P) : Type 0 where
+    pub is : d ≡ lay-listed w (all l) c

@@ -1,0 +1,97 @@
+//! The benchmark: the proved library beside the crate, in one process, on the same lists. Each time
+//! is the best of many; the library's include its form check and all its passes, and the crate's
+//! iterators are drained into the same columns.
+
+use std::hint::black_box;
+use std::time::{Duration, Instant};
+
+use oracle::call::{Columns, Lent, MOST_RANGES, Operation, Tariff};
+use oracle::random::Random;
+use oracle::{blaze_side, rattle_side};
+
+/// How long each side of a row is run.
+const SPAN: Duration = Duration::from_millis(150);
+
+/// How ranges are strewn: the widest gap between them, and the longest range.
+const STREWN: [(&str, u64, u64); 2] = [("dense", 3, 6), ("spread", 1000, 10)];
+
+fn main() {
+    println!("operation               lists  strewn  crate ns/range  library ns/range  ratio");
+    for operation in [Operation::TwoWayInner, Operation::TwoWayLeft, Operation::TwoWayFull] {
+        rows(operation, &[2]);
+    }
+    for operation in [
+        Operation::Events,
+        Operation::Inner(1),
+        Operation::Inner(2),
+        Operation::Full(1),
+        Operation::Full(2),
+    ] {
+        rows(operation, &[2, 4, 16]);
+    }
+}
+
+fn rows(operation: Operation, list_counts: &[u64]) {
+    for (name, gap, length) in STREWN {
+        for &count in list_counts {
+            let lent = lists(count, gap, length);
+            let mut columns = columns(operation);
+            let by_crate = best(|| blaze_side::drain(operation, &lent, &mut columns));
+            let by_library = best(|| rattle_side::answer(operation, &lent, &mut columns));
+            let title = format!("{operation:?}");
+            let ratio = by_library / by_crate;
+            println!(
+                "{title:<22} {count:>6}  {name:<6} {by_crate:>15.1} {by_library:>17.1} {ratio:>6.2}"
+            );
+        }
+    }
+}
+
+/// So many instants' lists that have the most ranges together.
+fn lists(count: u64, gap: u64, length: u64) -> Lent<i64> {
+    let random = &mut Random::of_case(7, "bench", count * 10_000 + gap);
+    let list = |_| {
+        let mut next = 0;
+        let range = |_| {
+            let start = next + random.between(0, gap) as i64;
+            let end = start + random.between(1, length) as i64 - 1;
+            next = end + 1;
+            Tariff { start, end, value: random.between(0, 900) as i32 }
+        };
+        (0..MOST_RANGES as u64 / count).map(range).collect()
+    };
+    Lent::from_lists(&(0..count).map(list).collect::<Vec<Vec<_>>>())
+}
+
+/// Columns with room for all that an operation writes.
+fn columns(operation: Operation) -> Columns<i64> {
+    let room = 2 * MOST_RANGES;
+    match operation.column_count() {
+        4 => Columns::Events {
+            kinds: vec![0; room],
+            points: vec![0; room],
+            lists: vec![0; room],
+            values: vec![0; room],
+        },
+        5 => Columns::Sides {
+            starts: vec![0; room],
+            ends: vec![0; room],
+            lefts: vec![0; room],
+            rights: vec![0; room],
+            presences: vec![0; room],
+        },
+        _ => Columns::Priced { starts: vec![0; room], ends: vec![0; room], values: vec![0; room] },
+    }
+}
+
+/// The best time of a run, in nanoseconds for each range.
+fn best<R>(mut run: impl FnMut() -> R) -> f64 {
+    let mut least = Duration::MAX;
+    let began = Instant::now();
+    while began.elapsed() < SPAN {
+        let start = Instant::now();
+        black_box(run());
+        least = least.min(start.elapsed());
+    }
+    least.as_nanos() as f64 / MOST_RANGES as f64
+}
