@@ -9,9 +9,9 @@ use two_way::Cursor;
 use two_way::LEFT;
 use two_way::RIGHT;
 use two_way::Step;
-use two_way::left_count;
-use two_way::lesser;
-use two_way::most;
+use two_way::earlier;
+use two_way::enough;
+use two_way::first_count;
 use two_way::seat::begin;
 use two_way::seat::emit;
 use two_way::seat::put;
@@ -41,16 +41,16 @@ fn next_piece(starts: &[Point], ends: &[Point], m: usize, cursor: Cursor) -> Ste
             let right_end = key_at(ends, ra);
             if left_start < right_start {
                 // Left-only prefix, up to the right range's start or the left range's end.
-                let end = lesser(left_end, right_start - 1);
+                let end = earlier(left_end, right_start - 1);
                 return emit(starts, ends, m, cursor, left_start, end, LEFT);
             }
             if right_start < left_start {
                 // Right-only prefix, up to the left range's start or the right range's end.
-                let end = lesser(right_end, left_start - 1);
+                let end = earlier(right_end, left_start - 1);
                 return emit(starts, ends, m, cursor, right_start, end, RIGHT);
             }
             // Both start together: emit the overlap and keep any remainder.
-            let end = lesser(left_end, right_end);
+            let end = earlier(left_end, right_end);
             return emit(starts, ends, m, cursor, left_start, end, BOTH);
         }
         return emit(starts, ends, m, cursor, left_start, left_end, LEFT);
@@ -124,7 +124,7 @@ fn join(
         out_right.len(),
         out_presence.len(),
     );
-    let sure = most(starts.len()) <= room;
+    let sure = enough(starts.len()) <= room;
     let needed = pass(
         starts,
         ends,
@@ -176,7 +176,7 @@ pub fn full_join(
     if let Judgement::Refused(answer) = found {
         return answer;
     }
-    let m = left_count(counts);
+    let m = first_count(counts);
     join(
         starts,
         ends,

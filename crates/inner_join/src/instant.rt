@@ -7,10 +7,10 @@ use rules::Kind;
 use two_way::BOTH;
 use two_way::Cursor;
 use two_way::Step;
-use two_way::greater;
-use two_way::left_count;
-use two_way::lesser;
-use two_way::most;
+use two_way::earlier;
+use two_way::enough;
+use two_way::farther;
+use two_way::first_count;
 use two_way::instant::begin;
 use two_way::instant::emit;
 use two_way::instant::fresh;
@@ -53,8 +53,8 @@ fn next_piece(starts: &[Point], ends: &[Point], m: usize, cursor: Cursor) -> Ste
             right = fresh(starts, n, ra + 1);
             continue;
         }
-        let start = greater(left_start, right_start);
-        let end = lesser(left_end, right_end);
+        let start = farther(left_start, right_start);
+        let end = earlier(left_end, right_end);
         let kept = Cursor { left, right };
         return emit(starts, ends, m, kept, start, end, BOTH);
     }
@@ -122,7 +122,7 @@ fn join(
         out_right.len(),
         out_presence.len(),
     );
-    let sure = most(starts.len()) <= room;
+    let sure = enough(starts.len()) <= room;
     let needed = pass(
         starts,
         ends,
@@ -174,7 +174,7 @@ pub fn inner_join(
     if let Judgement::Refused(answer) = found {
         return answer;
     }
-    let m = left_count(counts);
+    let m = first_count(counts);
     join(
         starts,
         ends,

@@ -8,9 +8,9 @@ use two_way::BOTH;
 use two_way::Cursor;
 use two_way::LEFT;
 use two_way::Step;
-use two_way::left_count;
-use two_way::lesser;
-use two_way::most;
+use two_way::earlier;
+use two_way::enough;
+use two_way::first_count;
 use two_way::instant::begin;
 use two_way::instant::emit;
 use two_way::instant::fresh;
@@ -54,11 +54,11 @@ fn next_piece(starts: &[Point], ends: &[Point], m: usize, cursor: Cursor) -> Ste
         }
         if left_start < right_start {
             // A left-only prefix, up to the right range's start or the left range's end.
-            let end = lesser(left_end, right_start - 1);
+            let end = earlier(left_end, right_start - 1);
             return emit(starts, ends, m, kept, left_start, end, LEFT);
         }
         // The right range covers the left start: emit the overlap and keep any remainders.
-        let end = lesser(left_end, right_end);
+        let end = earlier(left_end, right_end);
         return emit(starts, ends, m, kept, left_start, end, BOTH);
     }
 }
@@ -125,7 +125,7 @@ fn join(
         out_right.len(),
         out_presence.len(),
     );
-    let sure = most(starts.len()) <= room;
+    let sure = enough(starts.len()) <= room;
     let needed = pass(
         starts,
         ends,
@@ -177,7 +177,7 @@ pub fn left_join(
     if let Judgement::Refused(answer) = found {
         return answer;
     }
-    let m = left_count(counts);
+    let m = first_count(counts);
     join(
         starts,
         ends,

@@ -1,5 +1,5 @@
 -- Columns written from the front: what a pass keeps from piece to piece. Assumes nothing.
-use Prim.Native.Nat.{ℕ, suc, min, _+_, _-_, _*_, _≤_, _<_}
+use Prim.Native.Nat.{ℕ, suc, _+_, _-_, _*_, _≤_, _<_}
 use mathlib.Core.Path.{_≡_, refl, sym, ap, subst, _∙_}
 use mathlib.Core.Bool.{Bool, true, false}
 use mathlib.Core.List.{List, [], _∷_, map, _++_, append-assoc}
@@ -15,7 +15,7 @@ use Rattle.rules.specs.Answer.{front}
 use Rattle.rules.specs.TwoWay.{Pairing, Match, side-value, presence}
 use Rattle.rules.specs.Outcomes.{Paired, paired-room}
 use Rattle.rules.proofs.Columns.{length-ranges}
-use Rattle.rules.proofs.Room as Room'
+use Rattle.rules.proofs.Room.{paired-room as pieces-upto}
 use Rattle.two_way.specs.Sides.{piece-of, onward, Two, start-at, end-at, stop, all, remains}
 use Rattle.two_way.specs.Steps.{Begun, high, Ready, Took, Stepped}
 use Rattle.two_way.specs.Columns.{value, Writable, put-row, Put, lay, Formed, Room, Passed}
@@ -69,7 +69,7 @@ module _ {P : Type 0} {t : Two P} {v : List ℤ} (f : Formed t v) where
       let l = onward (start-at t) (end-at t) (t .middle) 0 in
       let r = onward (start-at t) (end-at t) (stop t) (t .middle) in
       rw (paired-any o (t .width .points) (high t) (f .some-point) (omega arith) l r (f .left) (f .right))
-      (omega (arith, Room'.paired-room o (high t) l r (f .left, (f .right, tt)), length-ranges (start-at t) (end-at t) (λ i. i) 0 (t .middle - 0), length-ranges (start-at t) (end-at t) (λ i. i) (t .middle) (stop t - t .middle), f .splits))
+      (omega (arith, pieces-upto o (high t) l r (f .left, (f .right, tt)), length-ranges (start-at t) (end-at t) (λ i. i) 0 (t .middle - 0), length-ranges (start-at t) (end-at t) (λ i. i) (t .middle) (stop t - t .middle), f .splits))
 
 -- columns of the same lengths
 pub record Long {P : Type 0} (c d : Paired P) : Type 0 where

@@ -4,7 +4,7 @@ use mathlib.Core.Path.{_≡_, refl, sym, _∙_}
 use mathlib.Core.Logic.{_⊎_, inl, inr}
 use mathlib.Core.Bool.{true, false}
 use mathlib.Core.Option.{Option, none, some}
-use mathlib.Core.List.{List, []}
+use mathlib.Core.List.{List}
 use native.Mathlib.Omega.{arith}
 use Rattle.integer.specs.KeyAt.{KeyAt}
 use Rattle.rules.specs.Piece.{Piece, at, Within}

@@ -1,5 +1,5 @@
 -- From the judgement of what is lent to the outcome of a two-way operation. Assumes nothing.
-use Prim.Native.Nat.{ℕ, zero, suc, _+_, _-_, _*_, _≤_, _<_}
+use Prim.Native.Nat.{ℕ, zero, suc, _-_, _*_, _≤_, _<_}
 use mathlib.Core.Path.{_≡_, refl, sym, ap, _∙_}
 use mathlib.Core.Logic.{_⊎_, inl, inr}
 use mathlib.Core.Bool.{Bool, true, false}
@@ -10,10 +10,10 @@ use lib.Dec.{leb}
 use borrow.Author.Tests.{le-leb, lt-leb, leb-true}
 use lib.IntN.{ℤ}
 use lib.ListN.{length, getD}
-use Rattle.rules.specs.Piece.{Piece, AllWellFormed}
+use Rattle.rules.specs.Piece.{AllWellFormed}
 use Rattle.rules.specs.Lists.{Width, Lent, cut, total, tracks}
-use Rattle.rules.specs.Answer.{Outcome, judge, settle}
-use Rattle.rules.specs.TwoWay.{Pairing, paired}
+use Rattle.rules.specs.Answer.{judge}
+use Rattle.rules.specs.TwoWay.{Pairing}
 use Rattle.rules.specs.Outcomes.{Paired, paired-room, pairing}
 use Rattle.rules.specs.declared.Answer.{Answer}
 use Rattle.rules.specs.declared.Answer.the-variants.{Done, NoRoom}
@@ -24,7 +24,7 @@ use Rattle.rules.proofs.At.{le-or-lt}
 use Rattle.rules.proofs.Refusals.{sound-limits, sound-lists}
 use Rattle.two_way.specs.Sides.{onward, Two, two, start-at, end-at, stop, all}
 use Rattle.two_way.specs.Steps.{above, high}
-use Rattle.two_way.specs.Columns.{leaves, Formed, Room, Passed, joined, Joined}
+use Rattle.two_way.specs.Columns.{leaves, Formed, Room, Passed, Joined}
 use Rattle.two_way.proofs.Columns.{count-upto}
 
 module _ {P : Type 0} {t : Two P} {o : Pairing} {v : List ℤ} {c : Paired P} where

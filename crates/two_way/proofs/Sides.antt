@@ -1,8 +1,7 @@
 -- What is left of one list: where it begins, what a run takes off it, and where a run must end. Assumes nothing.
-use Prim.Native.Nat.{ℕ, zero, suc, min, _+_, _-_, _≤_, _<_}
-use mathlib.Core.Path.{_≡_, refl, sym, _∙_, ap}
+use Prim.Native.Nat.{ℕ, zero, suc, _+_, _-_, _≤_, _<_}
+use mathlib.Core.Path.{_≡_, refl, sym, _∙_}
 use mathlib.Core.Logic.{_⊎_, inl, inr}
-use mathlib.Core.Bool.{Bool, true, false}
 use mathlib.Core.Option.{Option, none, some}
 use mathlib.Core.List.{List, [], _∷_}
 use native.Mathlib.Omega.{arith}
@@ -13,7 +12,7 @@ use Rattle.rules.specs.Lists.{range, ranges}
 use Rattle.rules.proofs.At.{at-in, at-before, at-after, at-early, within-le, le-or-lt}
 use Rattle.rules.proofs.Columns.{ranges-done}
 use Rattle.rules.proofs.TwoWay.{within-low}
-use Rattle.two_way.specs.Sides.{unless, held, side, onward, past, moved}
+use Rattle.two_way.specs.Sides.{side, onward, past}
 use Rattle.two_way.specs.declared.Side.{Side}
 use Rattle.two_way.proofs.Peel.{none-some}
 

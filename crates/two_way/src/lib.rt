@@ -42,13 +42,15 @@ pub enum Step {
     Done,
 }
 
-pub fn lesser(a: u64, b: u64) -> u64
+// The earlier of two points.
+pub fn earlier(a: u64, b: u64) -> u64
     ensures { λ r. ⌜ r ≡ min a b ⌝ }
 {
     if a < b { a } else { b }
 }
 
-pub fn greater(a: u64, b: u64) -> u64
+// The farther of two points.
+pub fn farther(a: u64, b: u64) -> u64
     ensures { λ r. ⌜ r ≡ max a b ⌝ }
 {
     if a < b { b } else { a }
@@ -67,8 +69,8 @@ pub fn shortest(a: usize, b: usize, c: usize, d: usize, e: usize) -> usize
     shorter(a, shorter(b, shorter(c, shorter(d, e))))
 }
 
-// The most pieces that n ranges give.
-pub fn most(n: usize) -> usize
+// The most pieces that n ranges give: room for them is enough.
+pub fn enough(n: usize) -> usize
     requires { ⌜ n ≤ 2048 ⌝ }
     ensures { λ r. ⌜ r ≡ 2 * n - 1 ⌝ }
 {
@@ -76,7 +78,7 @@ pub fn most(n: usize) -> usize
 }
 
 // How many ranges the left list has.
-pub fn left_count(counts: &[u32]) -> usize
+pub fn first_count(counts: &[u32]) -> usize
     requires { ⌜ 0 < length (now counts) ⌝ }
     ensures { λ r. ⌜ r ≡ getD (now (counts .entry)) 0 0 ⌝ }
 {

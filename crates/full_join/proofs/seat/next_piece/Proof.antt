@@ -20,36 +20,36 @@ next-piece-spec =
     let a : tie.Start = search in
     let r = c .before .before in
     let l = r .before .before in
-    left-prefix (a .pre) full refl (l .before .if1 .taken) (l .key-at .ensures) (r .before .if2 .taken) (c .before .if3 .taken) (c .lesser .ensures) .covering)
+    left-prefix (a .pre) full refl (l .before .if1 .taken) (l .key-at .ensures) (r .before .if2 .taken) (c .before .if3 .taken) (c .earlier .ensures) .covering)
     (λ c.
     let e = c .before in
     let a : tie.Start = search in
     let r = e .before .before in
     let l = r .before .before in
-    emitted (left-prefix (a .pre) full refl (l .before .if1 .taken) (l .key-at .ensures) (r .before .if2 .taken) (e .before .if3 .taken) (e .lesser .ensures)) (c .emit .result) (c .emit .ensures))
+    emitted (left-prefix (a .pre) full refl (l .before .if1 .taken) (l .key-at .ensures) (r .before .if2 .taken) (e .before .if3 .taken) (e .earlier .ensures)) (c .emit .result) (c .emit .ensures))
     (λ c. search needs)
     (λ c κs. search needs)
     (λ c κs.
     let a : tie.Start = search in
     let r = c .before .before .before in
-    right-prefix (a .pre) (r .before .if2 .taken) (r .key-at2 .ensures) (r .before .before .before .if1 .taken) (c .before .if4 .taken) (c .lesser2 .ensures) .covering)
+    right-prefix (a .pre) (r .before .if2 .taken) (r .key-at2 .ensures) (r .before .before .before .if1 .taken) (c .before .if4 .taken) (c .earlier2 .ensures) .covering)
     (λ c.
     let e = c .before in
     let a : tie.Start = search in
     let r = e .before .before .before in
-    emitted (right-prefix (a .pre) (r .before .if2 .taken) (r .key-at2 .ensures) (r .before .before .before .if1 .taken) (e .before .if4 .taken) (e .lesser2 .ensures)) (c .emit2 .result) (c .emit2 .ensures))
+    emitted (right-prefix (a .pre) (r .before .if2 .taken) (r .key-at2 .ensures) (r .before .before .before .if1 .taken) (e .before .if4 .taken) (e .earlier2 .ensures)) (c .emit2 .result) (c .emit2 .ensures))
     (λ c κs. search needs)
     (λ c κs.
     let a : tie.Start = search in
     let r = c .before .before .before in
     let l = r .before .before in
-    both-start (a .pre) (l .before .if1 .taken) (r .before .if2 .taken) (l .key-at .ensures) (r .key-at2 .ensures) (omega (arith, c .before .if4 .left, c .before .before .if3 .left)) (c .lesser3 .ensures) .covering)
+    both-start (a .pre) (l .before .if1 .taken) (r .before .if2 .taken) (l .key-at .ensures) (r .key-at2 .ensures) (omega (arith, c .before .if4 .left, c .before .before .if3 .left)) (c .earlier3 .ensures) .covering)
     (λ c.
     let e = c .before in
     let a : tie.Start = search in
     let r = e .before .before .before in
     let l = r .before .before in
-    emitted (both-start (a .pre) (l .before .if1 .taken) (r .before .if2 .taken) (l .key-at .ensures) (r .key-at2 .ensures) (omega (arith, e .before .if4 .left, e .before .before .if3 .left)) (e .lesser3 .ensures)) (c .emit3 .result) (c .emit3 .ensures))
+    emitted (both-start (a .pre) (l .before .if1 .taken) (r .before .if2 .taken) (l .key-at .ensures) (r .key-at2 .ensures) (omega (arith, e .before .if4 .left, e .before .before .if3 .left)) (e .earlier3 .ensures)) (c .emit3 .result) (c .emit3 .ensures))
     (λ c κs.
     let a : tie.Start = search in
     let k = c .before in

@@ -22,9 +22,9 @@ inner-join-spec =
     let a : tie.Start = search in
     omega (arith, sound-two seats (lent (a .args .starts .now) (a .args .ends .now) (a .args .values .now) (a .args .counts .now)) (c .before .before .judge .ensures) (c .enum-told .given .1)))
     (λ c κs.
-    let n : tie.After-left-count = search in
+    let n : tie.After-first-count = search in
     let a : tie.Start = search in
-    sound-formed seats (lent (a .args .starts .now) (a .args .ends .now) (a .args .values .now) (a .args .counts .now)) (n .before .before .before .judge .ensures) (n .before .enum-told .given .1) (n .left-count .ensures) (omega arith))
+    sound-formed seats (lent (a .args .starts .now) (a .args .ends .now) (a .args .values .now) (a .args .counts .now)) (n .before .before .before .judge .ensures) (n .before .enum-told .given .1) (n .first-count .ensures) (omega arith))
     (λ c. search needs)
     (λ c. search needs)
     (λ c. search needs)
@@ -32,6 +32,6 @@ inner-join-spec =
     (λ c. search needs)
     (λ c.
     let j : tie.After-join = search in
-    let n : tie.After-left-count = search in
+    let n : tie.After-first-count = search in
     let a : tie.Start = search in
-    sound-joined seats (lent (a .args .starts .now) (a .args .ends .now) (a .args .values .now) (a .args .counts .now)) (n .before .before .before .judge .ensures) (n .before .enum-told .given .1) (n .left-count .ensures) (j .join .ensures)))
+    sound-joined seats (lent (a .args .starts .now) (a .args .ends .now) (a .args .values .now) (a .args .counts .now)) (n .before .before .before .judge .ensures) (n .before .enum-told .given .1) (n .first-count .ensures) (j .join .ensures)))

@@ -10,7 +10,7 @@ join-spec =
     (tie.spec
     (λ c κs. search needs)
     (λ c κs. search needs)
-    (λ c κs. let m : tie.After-most = search in let a : tie.Start = search in (a .pre, room-sure (a .pre) (m .most .ensures) (m .before .shortest .ensures)))
+    (λ c κs. let m : tie.After-enough = search in let a : tie.Start = search in (a .pre, room-sure (a .pre) (m .enough .ensures) (m .before .shortest .ensures)))
     (λ c. search needs)
     (λ c. search needs)
     (λ c. search needs)
@@ -18,9 +18,9 @@ join-spec =
     (λ c. search needs)
     (λ c.
     let p : tie.After-pass = search in
-    let m : tie.After-most = search in
+    let m : tie.After-enough = search in
     let a : tie.Start = search in
-    joined-sure (p .pass .ensures) (room-sure (a .pre) (m .most .ensures) (m .before .shortest .ensures)) (c .if1 .taken))
+    joined-sure (p .pass .ensures) (room-sure (a .pre) (m .enough .ensures) (m .before .shortest .ensures)) (c .if1 .taken))
     (λ c. search needs)
     (λ c. search needs)
     (λ c. search needs)

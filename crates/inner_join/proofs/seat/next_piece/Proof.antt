@@ -54,7 +54,7 @@ next-piece-spec =
     let r = d .before .before in
     let l = r .before in
     let b = l .before in
-    overlap (b .before .before .loop .inv .ready) (b .before .if1 .left) (b .if2 .left) (l .key-at .ensures) (r .key-at2 .ensures) (d .if4 .left) (d .before .if3 .left) (c .before .greater .ensures) (c .lesser .ensures) .covering)
+    overlap (b .before .before .loop .inv .ready) (b .before .if1 .left) (b .if2 .left) (l .key-at .ensures) (r .key-at2 .ensures) (d .if4 .left) (d .before .if3 .left) (c .before .farther .ensures) (c .earlier .ensures) .covering)
     (λ c.
     let e = c .before in
     let d = e .before .before in
@@ -62,4 +62,4 @@ next-piece-spec =
     let l = r .before in
     let b = l .before in
     let i = b .before .before .loop .inv in
-    instead-step i (c .emit .result) (emitted (overlap (i .ready) (b .before .if1 .left) (b .if2 .left) (l .key-at .ensures) (r .key-at2 .ensures) (d .if4 .left) (d .before .if3 .left) (e .before .greater .ensures) (e .lesser .ensures)) (c .emit .result) (c .emit .ensures))))
+    instead-step i (c .emit .result) (emitted (overlap (i .ready) (b .before .if1 .left) (b .if2 .left) (l .key-at .ensures) (r .key-at2 .ensures) (d .if4 .left) (d .before .if3 .left) (e .before .farther .ensures) (e .earlier .ensures)) (c .emit .result) (c .emit .ensures))))

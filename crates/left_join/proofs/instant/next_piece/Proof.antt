@@ -49,22 +49,22 @@ next-piece-spec =
     let r = c .before .before .before in
     let l = r .before .before in
     let k = l .before .before in
-    left-prefix (l .loop .inv .ready) op refl (k .before .if1 .left) (k .key-at .ensures) (r .before .if2 .left) (c .before .if4 .taken) (c .lesser .ensures) .covering)
+    left-prefix (l .loop .inv .ready) op refl (k .before .if1 .left) (k .key-at .ensures) (r .before .if2 .left) (c .before .if4 .taken) (c .earlier .ensures) .covering)
     (λ c.
     let e = c .before in
     let r = e .before .before .before in
     let l = r .before .before in
     let k = l .before .before in
-    instead-step (l .loop .inv) (c .emit2 .result) (emitted (left-prefix (l .loop .inv .ready) op refl (k .before .if1 .left) (k .key-at .ensures) (r .before .if2 .left) (e .before .if4 .taken) (e .lesser .ensures)) (c .emit2 .result) (c .emit2 .ensures)))
+    instead-step (l .loop .inv) (c .emit2 .result) (emitted (left-prefix (l .loop .inv .ready) op refl (k .before .if1 .left) (k .key-at .ensures) (r .before .if2 .left) (e .before .if4 .taken) (e .earlier .ensures)) (c .emit2 .result) (c .emit2 .ensures)))
     (λ c κs. search needs)
     (λ c κs.
     let r = c .before .before .before in
     let l = r .before .before in
     let k = l .before .before in
-    left-covered (l .loop .inv .ready) (k .before .if1 .left) (r .before .if2 .left) (k .key-at .ensures) (r .key-at2 .ensures) (c .before .if4 .left) (c .before .before .if3 .left) (c .lesser2 .ensures) .covering)
+    left-covered (l .loop .inv .ready) (k .before .if1 .left) (r .before .if2 .left) (k .key-at .ensures) (r .key-at2 .ensures) (c .before .if4 .left) (c .before .before .if3 .left) (c .earlier2 .ensures) .covering)
     (λ c.
     let e = c .before in
     let r = e .before .before .before in
     let l = r .before .before in
     let k = l .before .before in
-    instead-step (l .loop .inv) (c .emit3 .result) (emitted (left-covered (l .loop .inv .ready) (k .before .if1 .left) (r .before .if2 .left) (k .key-at .ensures) (r .key-at2 .ensures) (e .before .if4 .left) (e .before .before .if3 .left) (e .lesser2 .ensures)) (c .emit3 .result) (c .emit3 .ensures))))
+    instead-step (l .loop .inv) (c .emit3 .result) (emitted (left-covered (l .loop .inv .ready) (k .before .if1 .left) (r .before .if2 .left) (k .key-at .ensures) (r .key-at2 .ensures) (e .before .if4 .left) (e .before .before .if3 .left) (e .earlier2 .ensures)) (c .emit3 .result) (c .emit3 .ensures))))

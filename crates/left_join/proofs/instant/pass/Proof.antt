@@ -1,22 +1,14 @@
 -- `left_join::instant::pass` meets its contract: the pieces done and those that are left are all pieces. Assumes nothing.
 use Prim.Native.Nat.{_-_}
-use mathlib.Core.Path.{subst}
 use native.Mathlib.Omega.{arith}
-use borrow.Author.Needs.{needs}
 use lib.ListN.{length}
 use Rattle.rules.specs.Lists.{instants}
 use Rattle.rules.specs.TwoWay.{left}
 use Rattle.two_way.specs.Sides.{two, all}
-use Rattle.two_way.specs.Steps.{Stepped}
 use Rattle.two_way.specs.Columns.{columns}
 use Rattle.two_way.proofs.Columns.{Going, going-first, going-long, going-lt, going-few, going-writable, going-more, going-last}
 use Rattle.left_join.proofs.instant.pass.Statement.{statement}
 use Rattle.left_join.proofs.instant.pass.Tie as tie
-use Rattle.left_join.proofs.instant.pass.Reads as reads
-use Rattle.left_join.proofs.instant.pass.Lts as lts
-use Rattle.left_join.proofs.instant.next_piece.Reads as next-piece-reads
-use Rattle.two_way.proofs.instant.begin.Reads as begin-reads
-use Rattle.two_way.proofs.instant.put.Reads as put-reads
 
 abbrev Inv-loop : tie.InvT-loop
 Inv-loop starts ends values m write out-start₀ out-end₀ out-left₀ out-right₀ out-presence₀ cursor₀ count₀ out-start out-end out-left out-right out-presence cursor count =
@@ -26,12 +18,12 @@ abbrev μ-loop : tie.MeasureT-loop
 μ-loop starts ends values m write out-start₀ out-end₀ out-left₀ out-right₀ out-presence₀ cursor₀ count₀ out-start out-end out-left out-right out-presence cursor count =
     length (all (two instants starts ends m) left) - count
 
--- the loop, and the step that was taken in it
-abbrev At : Type 0
-At = tie.At-loop Inv-loop μ-loop
+-- where the loop is, and where a step has given a piece
+abbrev Loop : Type 0
+Loop = tie.At-loop Inv-loop μ-loop
 
-abbrev Stepped' : Type 0
-Stepped' = tie.After-step Inv-loop μ-loop
+abbrev Step : Type 0
+Step = tie.After-step Inv-loop μ-loop
 
 pub pass-spec : {M : Type 1} → statement M
 pass-spec =
@@ -44,13 +36,13 @@ pass-spec =
     (λ c κs. c .loop .inv .ready)
     (λ c. c .match .keys1)
     (λ c. c .match .keys2)
-    (λ c. let l : At = search in going-long (l .loop .inv) .start)
-    (λ c. let l : At = search in going-long (l .loop .inv) .end)
-    (λ c. let l : At = search in going-long (l .loop .inv) .left)
-    (λ c. let l : At = search in going-long (l .loop .inv) .right)
-    (λ c. let l : At = search in going-long (l .loop .inv) .presence)
+    (λ c. let l : Loop = search in going-long (l .loop .inv) .start)
+    (λ c. let l : Loop = search in going-long (l .loop .inv) .end)
+    (λ c. let l : Loop = search in going-long (l .loop .inv) .left)
+    (λ c. let l : Loop = search in going-long (l .loop .inv) .right)
+    (λ c. let l : Loop = search in going-long (l .loop .inv) .presence)
     (λ c. let n = c .before .before in going-last (n .before .loop .inv) (n .next-piece .ensures) (c .enum-told .given .1))
-    (λ c κs. let s : Stepped' = search in let n = s .before .before in going-writable (n .before .loop .inv) (n .next-piece .ensures) (s .step .given .1))
-    (λ c. let s : Stepped' = search in let n = s .before .before in omega (arith, going-few (n .before .loop .inv) (n .next-piece .ensures) (s .step .given .1)))
-    (λ c. let s : Stepped' = search in let n = s .before .before in omega (arith, going-lt (n .before .loop .inv) (n .next-piece .ensures) (s .step .given .1)))
-    (λ c. let s : Stepped' = search in let p : tie.After-put Inv-loop μ-loop = search in let n = s .before .before in going-more (n .before .loop .inv) (n .next-piece .ensures) (s .step .given .1) (p .put .ensures)))
+    (λ c κs. let s : Step = search in let n = s .before .before in going-writable (n .before .loop .inv) (n .next-piece .ensures) (s .step .given .1))
+    (λ c. let s : Step = search in let n = s .before .before in omega (arith, going-few (n .before .loop .inv) (n .next-piece .ensures) (s .step .given .1)))
+    (λ c. let s : Step = search in let n = s .before .before in omega (arith, going-lt (n .before .loop .inv) (n .next-piece .ensures) (s .step .given .1)))
+    (λ c. let s : Step = search in let p : tie.After-put Inv-loop μ-loop = search in let n = s .before .before in going-more (n .before .loop .inv) (n .next-piece .ensures) (s .step .given .1) (p .put .ensures)))

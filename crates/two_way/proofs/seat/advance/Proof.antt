@@ -1,5 +1,4 @@
 -- `two_way::seat::advance` meets its contract: what is left past the end of a piece. Assumes nothing.
-use mathlib.Core.Path.{_∙_, sym}
 use native.Mathlib.Omega.{arith}
 use borrow.Author.Needs.{needs}
 use Rattle.two_way.proofs.Kept.{kept-all, kept-remainder, kept-after}
