@@ -1,12 +1,12 @@
 -- A piece that comes next, taken off: what is left then is what is left past it. Assumes nothing.
 use Prim.Native.Nat.{ℕ, _+_, _≤_, _<_}
-use mathlib.Core.Path.{_≡_, refl, sym}
+use mathlib.Core.Path.{_≡_, sym}
 use mathlib.Core.Bool.{Bool, true, false, false≢true}
 use mathlib.Core.Option.{Option, none, some}
 use mathlib.Core.List.{List}
 use native.Mathlib.Omega.{arith}
 use Rattle.rules.specs.Piece.{Piece, at, Within}
-use Rattle.rules.specs.TwoWay.{Pairing, inner, left, full, keeps}
+use Rattle.rules.specs.TwoWay.{Pairing, keeps}
 use Rattle.rules.proofs.At.{at-early}
 use Rattle.rules.proofs.TwoWay.{within-low}
 use Rattle.two_way.specs.Sides.{unless, no-left, no-right, side, moved, Two, start-at, end-at, stop, left-of, right-of}
@@ -16,16 +16,12 @@ use Rattle.two_way.specs.declared.Cursor.{Cursor}
 use Rattle.two_way.specs.declared.Piece.{Piece as Found}
 use Rattle.two_way.specs.declared.Step.{Step}
 use Rattle.two_way.specs.declared.Step.the-variants.{Piece as Next, Done}
+use Rattle.two_way.proofs.Line.{keeps-nothing}
 use Rattle.two_way.proofs.Peel.{Peels, said, said-back, pair-peel}
 use Rattle.two_way.proofs.Sides.{Run, run-by, run-in}
 
 said-kept : (o : Pairing) (a b : Option ℕ) → keeps o (a, b) ≡ true → said o a b ≡ some (a, b)
 said-kept o a b h = rw h
-
-pub said-none : (o : Pairing) → said o none none ≡ none
-said-none inner = refl
-said-none left = refl
-said-none full = refl
 
 module _ {P : Type 0} (t : Two P) where
   -- the points from p to q are the next piece, with the sides that x tells
@@ -84,7 +80,7 @@ module _ {P : Type 0} {t : Two P} where
           early = m .early;
           on = λ z h k. let i = left-run .on z h k in let j = right-run .on z h k in rw (i, j) (said-kept o a b (m .kept));
           edge = λ e. let f = said-back o (at (left-of t c) (q + 1)) (at (right-of t c) (q + 1)) (a, b) e in m .edge (f .0) (f .1);
-          gone = λ z h. let i = at-early (q + 1) (high t) l' (left-run .within) z (omega arith) in let j = at-early (q + 1) (high t) r' (right-run .within) z (omega arith) in rw (i, j) (said-none o);
+          gone = λ z h. let i = at-early (q + 1) (high t) l' (left-run .within) z (omega arith) in let j = at-early (q + 1) (high t) r' (right-run .within) z (omega arith) in rw (i, j) (keeps-nothing o);
           kept = λ z h. let i = left-run .kept z h in let j = right-run .kept z h in rw (i, j);
         }
 

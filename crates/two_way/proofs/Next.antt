@@ -17,9 +17,10 @@ use Rattle.two_way.specs.declared.Side.{Side}
 use Rattle.two_way.specs.declared.Cursor.{Cursor}
 use Rattle.two_way.specs.declared.Step.{Step}
 use Rattle.two_way.specs.declared.Step.the-variants.{Piece as Next, Done}
+use Rattle.two_way.proofs.Line.{keeps-nothing}
 use Rattle.two_way.proofs.Peel.{none-some, said, pair-none, pair-same}
 use Rattle.two_way.proofs.Sides.{side-done, side-fresh, side-order, side-upto, side-from, side-early, side-in, side-after, side-ends, onward-within}
-use Rattle.two_way.proofs.Emit.{Emits, said-none}
+use Rattle.two_way.proofs.Emit.{Emits}
 
 module _ {P : Type 0} (t : Two P) where
   -- the list of a side that stops at a
@@ -86,7 +87,7 @@ module _ {P : Type 0} {t : Two P} {c : Cursor} (ready : Ready t c) where
           order = f .order;
           below = l;
           bits = (omega arith, omega arith);
-          early = λ z m. let i = f .early z m .0 in let j = f .early z m .1 in rw (i, j) (said-none o);
+          early = λ z m. let i = f .early z m .0 in let j = f .early z m .1 in rw (i, j) (keeps-nothing o);
           kept = keep;
           edge = f .edge;
         }
@@ -260,4 +261,4 @@ module _ {P : Type 0} {t : Two P} {c : Cursor} (ready : Ready t c) where
   right-done o wants h = nothing o (λ z. let i = right-gone h z in rw i (wants _))
 
   pub both-done : (o : Pairing) → t .middle ≤ c .left .at → stop t ≤ c .right .at → Stepped t o c Done
-  both-done o h m = nothing o (λ z. let i = left-gone h z in let j = right-gone m z in rw (i, j) (said-none o))
+  both-done o h m = nothing o (λ z. let i = left-gone h z in let j = right-gone m z in rw (i, j) (keeps-nothing o))
