@@ -8,3 +8,4 @@ pub mod Emit
 pub mod Next
 pub mod Columns
 pub mod Outcome
+pub mod Calls
