@@ -4,7 +4,7 @@ use mathlib.Core.Path.{_≡_, sym, _∙_}
 use native.Mathlib.Omega.{arith}
 use lib.ListN.{length}
 use borrow.Author.Tests.{le-leb, lt-leb}
-use Rattle.rules.specs.Lists.{Width, Lent, keys}
+use Rattle.rules.specs.Lists.{Width, Lent}
 use Rattle.rules.specs.Answer.{judge}
 use Rattle.rules.specs.Outcomes.{Listed, listed-room, listing}
 use Rattle.rules.specs.declared.Answer.{Answer}
@@ -12,22 +12,23 @@ use Rattle.rules.specs.declared.Answer.the-variants.{Done, NoRoom}
 use Rattle.rules.specs.declared.Judgement.{Judgement}
 use Rattle.rules.specs.declared.Judgement.the-variants.{Sound, Refused}
 use Rattle.rules.specs.declared.Kind.the-variants.{Listing}
+use Rattle.form.specs.Shape.{Found}
 use Rattle.form.proofs.Sound.{Formed, sound}
 use Rattle.event_listing.specs.Listing.{leaves, all, Listable, Wrote}
 use Rattle.event_listing.proofs.Rows.{events-count}
 
-module _ {P : Type 0} (w : Width P) (l : Lent P) {f : Judgement} (found : f ≡ judge w Listing l) where
+module _ {P : Type 0} (w : Width P) (l : Lent P) {f : Judgement} (found : Found w (l .ends) 0 (length (l .ends)) (judge w Listing l) f) where
   pub refused : {a : Answer} {c : Listed P} → f ≡ Refused a → leaves a c ≡ listing w l c
   unfolding listing
-  refused q = let h = sym found ∙ q in rw h
+  refused q = let h = sym (found .is) ∙ q in rw h
 
-  -- nothing is refused, and the ends have keys
-  module _ (q : f ≡ Sound) (low : (i : ℕ) → i < length (l .ends) → keys w (l .ends) i < w .points) where
+  -- nothing is refused
+  module _ (q : f ≡ Sound) where
     h : judge w Listing l ≡ Sound
-    h = sym found ∙ q
+    h = sym (found .is) ∙ q
 
     formed : Formed w Listing l
-    formed = sound w Listing l found q low
+    formed = sound w Listing l found q
 
     count : length (all w l) ≡ 2 * length (l .starts)
     count = events-count w l (formed .fit .agree)

@@ -7,7 +7,6 @@ use multiway_sweep::Event;
 use multiway_sweep::Sizes;
 use multiway_sweep::Step;
 use multiway_sweep::instant::fill;
-use multiway_sweep::instant::read;
 use multiway_sweep::instant::step;
 use rules::Answer;
 use rules::Judgement;
@@ -120,7 +119,6 @@ pub fn list_events(
     if let Judgement::Refused(answer) = found {
         return answer;
     }
-    read(ends);
     let needed = 2 * starts.len();
     let room = shortest(
         out_kind.len(),

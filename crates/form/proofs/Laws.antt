@@ -1,6 +1,6 @@
 -- The steps of the form checker: one range, a list's next range, the next list, and the refusals before them. Assumes nothing.
 use Prim.Native.Nat.{ℕ, _+_, _-_, _≤_, _<_}
-use mathlib.Core.Path.{_≡_, refl, sym, _∙_}
+use mathlib.Core.Path.{_≡_, refl, sym, ap, _∙_}
 use mathlib.Core.Logic.{_⊎_, ⊎-elim}
 use mathlib.Core.Bool.{Bool, true, false, _&&_, not, and-false}
 use mathlib.Core.Option.{Option, none, some}
@@ -10,16 +10,18 @@ use lib.Dec.{ltb, eqb}
 use lib.ListN.{length, getD, drop, drop-of-length-le}
 use borrow.Author.Tests.{lt-ltb, le-ltb, le-leb, lt-leb, eq-eqb, ne-eqb, not-true, not-false}
 use Rattle.rules.specs.Piece.{Piece}
-use Rattle.rules.specs.Lists.{Width, Lent, ranges, cut, total, tracks}
+use Rattle.rules.specs.Lists.{Width, Lent, keys, ranges, cut, total, tracks}
 use Rattle.rules.specs.Answer.{refuse, or-else, judge-range, judge-list, judge-lists, judge, two-way, unknown-combiner}
 use Rattle.rules.specs.declared.Answer.{Answer}
 use Rattle.rules.specs.declared.Answer.the-variants.{TooManyLists, NotTwoLists, TooManyRanges, ColumnsDiffer, Backward, Overlap, UnknownCombiner}
 use Rattle.rules.specs.declared.Judgement.{Judgement}
 use Rattle.rules.specs.declared.Judgement.the-variants.{Sound, Refused}
 use Rattle.rules.specs.declared.Kind.{Kind}
+use Rattle.rules.proofs.At.{le-or-lt}
 use Rattle.rules.proofs.Faults.{tells-eq, tells-both}
+use Rattle.rules.proofs.Refusals.{sound-limits}
 use Rattle.rules.proofs.Columns.{ranges-more, ranges-done, cut-more}
-use Rattle.form.specs.Shape.{judge-shape, Long}
+use Rattle.form.specs.Shape.{judge-shape, Long, Low, Found}
 
 -- the ways through the check of one range x
 module _ (x : Piece ℕ) where
@@ -134,3 +136,19 @@ refuse-or false a j k = refl
 pub judge-parts : {P : Type 0} (w : Width P) (k : Kind) (l : Lent P) → judge w k l ≡ or-else (judge-shape k (length (l .starts)) (length (l .ends)) (length (l .values)) (l .counts)) (judge-lists (tracks w l))
 unfolding judge judge-shape
 judge-parts w k l = simp (← refuse-or)
+
+module _ {P : Type 0} (w : Width P) (ends : List P) where
+  -- one more end, and the ends of one more list
+  pub low-more : {from i r : ℕ} → Low w ends from i → r ≡ keys w ends i → r < w .points → Low w ends from (i + 1)
+  low-more {i = i} l is below k f h = ⊎-elim (λ e. let z : k ≡ i = omega arith in omega (arith, ap (keys w ends) z)) (λ e. l k f e) (le-or-lt i k)
+
+  pub low-join : {from middle stop : ℕ} → Low w ends from middle → Low w ends middle stop → Low w ends from stop
+  low-join {middle = middle} a b k f h = ⊎-elim (λ e. b k e h) (λ e. a k f e) (le-or-lt middle k)
+
+  -- a refusal says nothing of ends
+  pub found-refused : {from stop : ℕ} {j r : Judgement} {a : Answer} → r ≡ j → r ≡ Refused a → Found w ends from stop j r
+  found-refused is e = record { is = is; low = λ h. let z : _≡_ {A = ℕ} 0 1 = cc in absurd (omega arith) }
+
+-- the ends of all lists are all ends
+pub found-all : {P : Type 0} (w : Width P) (k : Kind) (l : Lent P) {j r : Judgement} → Found w (l .ends) 0 (total (l .counts)) j r → r ≡ judge w k l → Found w (l .ends) 0 (length (l .ends)) (judge w k l) r
+found-all w k l f e = record { is = e; low = λ h i m b. let a = sound-limits w k l (sym e ∙ h) .agree in f .low h i m (omega (arith, a .ends-long, a .adds-up)) }

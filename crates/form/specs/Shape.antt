@@ -1,12 +1,13 @@
 -- What is judged before the ranges are looked at, and a range as it is judged. Assumes nothing.
-use Prim.Native.Nat.{ℕ, _≤_}
+use Prim.Native.Nat.{ℕ, _≤_, _<_}
+use mathlib.Core.Path.{_≡_}
 use mathlib.Core.Bool.{_&&_, not}
 use mathlib.Core.Option.{Option, none, some}
 use mathlib.Core.List.{List}
 use lib.Dec.{ltb, eqb}
 use lib.ListN.{length}
 use Rattle.rules.specs.Piece.{Piece}
-use Rattle.rules.specs.Lists.{total}
+use Rattle.rules.specs.Lists.{Width, keys, total}
 use Rattle.rules.specs.Answer.{refuse, two-way, unknown-combiner}
 use Rattle.rules.specs.declared.Answer.the-variants.{TooManyLists, NotTwoLists, TooManyRanges, ColumnsDiffer, UnknownCombiner}
 use Rattle.rules.specs.declared.Judgement.{Judgement}
@@ -39,3 +40,12 @@ pub record Long {P : Type 0} {A : Type 0} (starts ends : List P) (values : List 
   pub starts-long : stop ≤ length starts
   pub ends-long : stop ≤ length ends
   pub values-long : stop ≤ length values
+
+-- the ends at places from `from` up to but not `stop` are points
+abbrev pub Low : {P : Type 0} → Width P → List P → ℕ → ℕ → Type 0
+Low w ends from stop = (i : ℕ) → from ≤ i → i < stop → keys w ends i < w .points
+
+-- r is the judgement j, and where it is sound the ends that it is about are points
+pub record Found {P : Type 0} (w : Width P) (ends : List P) (from stop : ℕ) (j r : Judgement) : Type 0 where
+  pub is : r ≡ j
+  pub low : r ≡ Sound → Low w ends from stop

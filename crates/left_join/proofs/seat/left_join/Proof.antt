@@ -16,15 +16,15 @@ left-join-spec =
     (λ c. search needs)
     (λ c.
     let a : tie.Start = search in
-    refused seats (lent (a .args .starts .now) (a .args .ends .now) (a .args .values .now) (a .args .counts .now)) left (c .before .before .before .judge .ensures) (c .before .found .given .1))
+    refused seats (lent (a .args .starts .now) (a .args .ends .now) (a .args .values .now) (a .args .counts .now)) left (c .before .before .before .judge .ensures .is) (c .before .found .given .1))
     (λ c. search needs)
     (λ c κs.
     let a : tie.Start = search in
-    omega (arith, sound-two seats (lent (a .args .starts .now) (a .args .ends .now) (a .args .values .now) (a .args .counts .now)) (c .before .before .judge .ensures) (c .enum-told .given .1)))
+    omega (arith, sound-two seats (lent (a .args .starts .now) (a .args .ends .now) (a .args .values .now) (a .args .counts .now)) (c .before .before .judge .ensures .is) (c .enum-told .given .1)))
     (λ c κs.
     let n : tie.After-first-count = search in
     let a : tie.Start = search in
-    sound-formed seats (lent (a .args .starts .now) (a .args .ends .now) (a .args .values .now) (a .args .counts .now)) (n .before .before .before .judge .ensures) (n .before .enum-told .given .1) (n .first-count .ensures) (omega arith))
+    sound-formed seats (lent (a .args .starts .now) (a .args .ends .now) (a .args .values .now) (a .args .counts .now)) (n .before .before .before .judge .ensures .is) (n .before .enum-told .given .1) (n .first-count .ensures) (omega arith))
     (λ c. search needs)
     (λ c. search needs)
     (λ c. search needs)
@@ -34,4 +34,4 @@ left-join-spec =
     let j : tie.After-join = search in
     let n : tie.After-first-count = search in
     let a : tie.Start = search in
-    sound-joined seats (lent (a .args .starts .now) (a .args .ends .now) (a .args .values .now) (a .args .counts .now)) (n .before .before .before .judge .ensures) (n .before .enum-told .given .1) (n .first-count .ensures) (j .join .ensures)))
+    sound-joined seats (lent (a .args .starts .now) (a .args .ends .now) (a .args .values .now) (a .args .counts .now)) (n .before .before .before .judge .ensures .is) (n .before .enum-told .given .1) (n .first-count .ensures) (j .join .ensures)))
