@@ -45,14 +45,35 @@ type TwoWay<T> = unsafe extern "C" fn(
     *mut u64,
 ) -> u8;
 
-/// The functions of one width: the event listing, and two-way inner, left and full.
+type Join<T> = unsafe extern "C" fn(
+    u8,
+    *const T,
+    usize,
+    *const T,
+    usize,
+    *const i32,
+    usize,
+    *const u32,
+    usize,
+    *mut T,
+    usize,
+    *mut T,
+    usize,
+    *mut i64,
+    usize,
+    *mut u64,
+) -> u8;
+
+/// The functions of one width: the event listing, two-way inner, left and full, many-way inner
+/// and full.
 pub trait Proved: Point {
     const LISTING: Listing<Self>;
     const TWO_WAY: [TwoWay<Self>; 3];
+    const JOINS: [Join<Self>; 2];
 }
 
 macro_rules! proved {
-    ($point:ty, $listing:ident, [$($two_way:ident),*]) => {
+    ($point:ty, $listing:ident, [$($two_way:ident),*], [$($join:ident),*]) => {
         unsafe extern "C" {
             fn $listing(
                 starts: *const $point, starts_len: usize, ends: *const $point, ends_len: usize,
@@ -68,11 +89,19 @@ macro_rules! proved {
                 out_left: *mut i32, out_left_len: usize, out_right: *mut i32, out_right_len: usize,
                 out_presence: *mut u8, out_presence_len: usize, number: *mut u64,
             ) -> u8;)*
+            $(fn $join(
+                combiner: u8,
+                starts: *const $point, starts_len: usize, ends: *const $point, ends_len: usize,
+                values: *const i32, values_len: usize, counts: *const u32, counts_len: usize,
+                out_start: *mut $point, out_start_len: usize, out_end: *mut $point, out_end_len: usize,
+                out_value: *mut i64, out_value_len: usize, number: *mut u64,
+            ) -> u8;)*
         }
 
         impl Proved for $point {
             const LISTING: Listing<Self> = $listing;
             const TWO_WAY: [TwoWay<Self>; 3] = [$($two_way),*];
+            const JOINS: [Join<Self>; 2] = [$($join),*];
         }
     };
 }
@@ -80,12 +109,14 @@ macro_rules! proved {
 proved!(
     u32,
     guineatwirl_seat_list_events,
-    [guineatwirl_seat_inner_join, guineatwirl_seat_left_join, guineatwirl_seat_full_join]
+    [guineatwirl_seat_inner_join, guineatwirl_seat_left_join, guineatwirl_seat_full_join],
+    [guineatwirl_seat_multiway_inner_join, guineatwirl_seat_multiway_full_join]
 );
 proved!(
     i64,
     guineatwirl_instant_list_events,
-    [guineatwirl_instant_inner_join, guineatwirl_instant_left_join, guineatwirl_instant_full_join]
+    [guineatwirl_instant_inner_join, guineatwirl_instant_left_join, guineatwirl_instant_full_join],
+    [guineatwirl_instant_multiway_inner_join, guineatwirl_instant_multiway_full_join]
 );
 
 /// The outcome of a call, or none where the library does not have the operation yet.
@@ -106,7 +137,8 @@ pub fn answer<T: Proved>(
         Operation::TwoWayInner => Some(two_way(T::TWO_WAY[0], lent, columns)),
         Operation::TwoWayLeft => Some(two_way(T::TWO_WAY[1], lent, columns)),
         Operation::TwoWayFull => Some(two_way(T::TWO_WAY[2], lent, columns)),
-        Operation::Inner(_) | Operation::Full(_) => None,
+        Operation::Inner(combiner) => Some(join(T::JOINS[0], combiner, lent, columns)),
+        Operation::Full(combiner) => Some(join(T::JOINS[1], combiner, lent, columns)),
         Operation::Union | Operation::SymmetricDifference => None,
     }
 }
@@ -167,6 +199,40 @@ fn two_way<T: Proved>(function: TwoWay<T>, lent: &Lent<T>, columns: &mut Columns
             rights.len(),
             presences.as_mut_ptr(),
             presences.len(),
+            &mut number,
+        )
+    };
+    Answer { code, number }
+}
+
+fn join<T: Proved>(
+    function: Join<T>,
+    combiner: u8,
+    lent: &Lent<T>,
+    columns: &mut Columns<T>,
+) -> Answer {
+    let Columns::Priced { starts, ends, values } = columns else {
+        panic!("the columns are another operation's");
+    };
+    let mut number = 0;
+    // Sound: each pointer goes with the length of the vector that it points into.
+    let code = unsafe {
+        function(
+            combiner,
+            lent.starts.as_ptr(),
+            lent.starts.len(),
+            lent.ends.as_ptr(),
+            lent.ends.len(),
+            lent.values.as_ptr(),
+            lent.values.len(),
+            lent.counts.as_ptr(),
+            lent.counts.len(),
+            starts.as_mut_ptr(),
+            starts.len(),
+            ends.as_mut_ptr(),
+            ends.len(),
+            values.as_mut_ptr(),
+            values.len(),
             &mut number,
         )
     };

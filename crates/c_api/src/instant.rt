@@ -3,13 +3,17 @@ use full_join::instant::full_join;
 use inner_join::instant::inner_join;
 use integer::instant::Point;
 use left_join::instant::left_join;
+use multiway_join::instant::multiway_full_join;
+use multiway_join::instant::multiway_inner_join;
 use rules::code;
 use rules::number as number_of;
 ghost use Rattle.rules.specs.Lists.{instants};
 ghost use Rattle.rules.specs.TwoWay.{inner, left, full};
-ghost use Rattle.rules.specs.Outcomes.{pairing, listing};
+ghost use Rattle.rules.specs.Outcomes.{pairing, listing, merging};
+ghost use Rattle.rules.specs.Outcomes as joins;
 ghost use Rattle.two_way.specs.Columns.{lent, columns};
 ghost use Rattle.event_listing.specs.Listing.{columns as listed};
+ghost use Rattle.multiway_join.specs.Pieces.{output};
 ghost use Rattle.c_api.specs.Said.{Said};
 
 #[no_mangle]
@@ -141,6 +145,70 @@ pub extern "C" fn guineatwirl_instant_full_join(
         out_left,
         out_right,
         out_presence,
+    );
+    *number = number_of(answer) as u64;
+    code(answer)
+}
+
+#[no_mangle]
+pub extern "C" fn guineatwirl_instant_multiway_inner_join(
+    combiner: u8,
+    starts: &[Point],
+    ends: &[Point],
+    values: &[i32],
+    counts: &[u32],
+    out_start: &mut [Point],
+    out_end: &mut [Point],
+    out_value: &mut [i64],
+    number: &mut u64,
+) -> u8
+    ensures { λ r.
+        let l = lent (now (starts .entry)) (now (ends .entry)) (now (values .entry)) (now (counts .entry)) in
+        let c = output (now («out_start» .entry)) (now («out_end» .entry)) (now («out_value» .entry)) in
+        let d = output (now («out_start» .exit)) (now («out_end» .exit)) (now («out_value» .exit)) in
+        ⌜ Said (merging instants (joins.inner combiner) l c) r (now (number .exit)) d ⌝ }
+{
+    let answer = multiway_inner_join(
+        combiner,
+        starts,
+        ends,
+        values,
+        counts,
+        out_start,
+        out_end,
+        out_value,
+    );
+    *number = number_of(answer) as u64;
+    code(answer)
+}
+
+#[no_mangle]
+pub extern "C" fn guineatwirl_instant_multiway_full_join(
+    combiner: u8,
+    starts: &[Point],
+    ends: &[Point],
+    values: &[i32],
+    counts: &[u32],
+    out_start: &mut [Point],
+    out_end: &mut [Point],
+    out_value: &mut [i64],
+    number: &mut u64,
+) -> u8
+    ensures { λ r.
+        let l = lent (now (starts .entry)) (now (ends .entry)) (now (values .entry)) (now (counts .entry)) in
+        let c = output (now («out_start» .entry)) (now («out_end» .entry)) (now («out_value» .entry)) in
+        let d = output (now («out_start» .exit)) (now («out_end» .exit)) (now («out_value» .exit)) in
+        ⌜ Said (merging instants (joins.full combiner) l c) r (now (number .exit)) d ⌝ }
+{
+    let answer = multiway_full_join(
+        combiner,
+        starts,
+        ends,
+        values,
+        counts,
+        out_start,
+        out_end,
+        out_value,
     );
     *number = number_of(answer) as u64;
     code(answer)

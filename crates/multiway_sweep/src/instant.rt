@@ -12,13 +12,13 @@ use heap::push;
 use heap::replace_top;
 use integer::instant::Point;
 use integer::instant::key_at;
-ghost use Prim.Native.Nat.{ℕ, _<_, _≤_};
+ghost use Prim.Native.Nat.{_<_, _≤_};
 ghost use mathlib.Core.List.{List};
 ghost use mathlib.Core.Logic.{_⊎_};
 ghost use mathlib.Core.Path.{_≡_};
 ghost use lib.IntN.{ℤ};
 ghost use lib.ListN.{length, getD};
-ghost use Rattle.rules.specs.Lists.{instants, keys, total};
+ghost use Rattle.rules.specs.Lists.{instants, total};
 ghost use Rattle.rules.specs.Sweep as rules;
 ghost use Rattle.multiway_sweep.specs.Steps.{columns, arrays, Sweeping, Stepped};
 ghost use Rattle.multiway_sweep.specs.Sweeps.{arrays-of, Advanced};
@@ -236,16 +236,5 @@ pub fn next(starts: &[Point], ends: &[Point], values: &[i32], sweep: Sweep) -> A
             end_lists,
             sizes,
         },
-    }
-}
-
-// Reads a column through: each of its points has a key.
-pub fn read(column: &[Point])
-    ensures { λ _. ⌜ ((i : ℕ) → i < length (now (column .entry)) → keys instants (now (column .entry)) i < instants .points) ⌝ }
-{
-    let mut i: usize = 0;
-    while i < column.len() {
-        key_at(column, i);
-        i += 1;
     }
 }

@@ -20,7 +20,15 @@ fn main() {
     for operation in [Operation::TwoWayInner, Operation::TwoWayLeft, Operation::TwoWayFull] {
         rows(operation, &[2]);
     }
-    rows(Operation::Events, &[2, 4, 16]);
+    for operation in [
+        Operation::Events,
+        Operation::Inner(1),
+        Operation::Inner(2),
+        Operation::Full(1),
+        Operation::Full(2),
+    ] {
+        rows(operation, &[2, 4, 16]);
+    }
 }
 
 fn rows(operation: Operation, list_counts: &[u64]) {

@@ -12,4 +12,4 @@ end-first-spec =
     (tie.spec
     (λ c. record { yes = λ e. absurd (false≢true e); no = λ e. inl (omega arith) })
     (λ c. record { yes = λ e. (omega arith, inl (omega arith)); no = λ e. absurd (true≢false e) })
-    (λ c. record { yes = λ e. (omega arith, inr (ltb-true _ _ e)); no = λ e. inr (omega arith, ltb-false _ _ e) }))
+    (λ c. record { yes = λ e. (omega arith, inr (omega (arith, ltb-true))); no = λ e. inr (omega arith, omega (arith, ltb-false)) }))

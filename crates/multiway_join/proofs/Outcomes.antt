@@ -1,0 +1,171 @@
+-- From the judgement of what is lent to the outcome of a many-way join. Assumes nothing.
+use Prim.Native.Nat.{ℕ, pred, _+_, _*_, _-_, _≤_, _<_, max}
+use mathlib.Core.Path.{_≡_, refl, sym, ap, _∙_, subst}
+use mathlib.Core.Bool.{Bool, true, false}
+use mathlib.Core.Option.{none}
+use mathlib.Core.List.{List, [], _∷_}
+use native.Mathlib.Omega.{arith}
+use lib.Dec.{leb}
+use lib.IntN.{pos}
+use lib.ListN.{length, getD, replicate}
+use borrow.Author.Tests.{le-leb, lt-leb, leb-true, not-false}
+use Rattle.rules.specs.Piece.{Range}
+use Rattle.rules.specs.Lists.{Width, Lent, keys, cut, total, lists}
+use Rattle.rules.specs.Answer.{known, judge}
+use Rattle.rules.specs.Same.{eqℤ}
+use Rattle.rules.specs.Sweep.{events}
+use Rattle.rules.specs.Outcomes.{Operation, kind-of, rule-of, merged, Merged, merged-room, merging}
+use Rattle.rules.specs.Proving.Below.{nones, size}
+use Rattle.rules.specs.declared.Answer.{Answer}
+use Rattle.rules.specs.declared.Answer.the-variants.{Done, NoRoom}
+use Rattle.rules.specs.declared.Judgement.{Judgement}
+use Rattle.rules.specs.declared.Judgement.the-variants.{Sound, Refused}
+use Rattle.rules.specs.declared.Kind.the-variants.{Join as JoinBy}
+use Rattle.rules.proofs.Columns.{length-ranges}
+use Rattle.rules.proofs.Refusals.{sound-limits, sound-lists}
+use Rattle.rules.proofs.Room.{runs-room, rule-nones, merged-enough, inner-of-none, full-of-none}
+use Rattle.rules.proofs.Same.{decides-ℤ}
+use Rattle.multiway_sweep.specs.Steps.{Arrays, columns, arrays}
+use Rattle.multiway_sweep.specs.declared.Step.{Step}
+use Rattle.multiway_join.specs.Active.{operation}
+use Rattle.multiway_join.specs.Stretches.{Ready}
+use Rattle.multiway_join.specs.Pieces.{leaves, Put}
+use Rattle.multiway_join.specs.Passes.{Joinable, Begins, Passed, Joined, Formed, Blank}
+use Rattle.multiway_join.specs.declared.Join.{Join}
+use Rattle.multiway_join.specs.declared.Join.the-variants.{Inner, Full}
+use Rattle.multiway_join.specs.declared.Pending.the-variants.{Held}
+use Rattle.multiway_join.proofs.Columns.{lay-put}
+
+module _ {A : Type 0} (s e : ℕ → ℕ) (v : ℕ → A) where
+  size-cut : (i : ℕ) (ns : List ℕ) → size (cut s e v i ns) ≡ total ns
+  size-cut i [] = refl
+  size-cut i (n ∷ ns) = omega (arith, length-ranges s e v i n, size-cut (i + n) ns)
+
+  length-cut : (i : ℕ) (ns : List ℕ) → length (cut s e v i ns) ≡ length ns
+  length-cut i [] = refl
+  length-cut i (n ∷ ns) = omega (arith, length-cut (i + n) ns)
+
+module _ {P : Type 0} (w : Width P) (l : Lent P) where
+  lists-size : size (lists w l) ≡ total (l .counts)
+  lists-size = size-cut (keys w (l .starts)) (keys w (l .ends)) (λ i. getD (l .values) i (pos 0)) 0 (l .counts)
+
+  lists-length : length (lists w l) ≡ length (l .counts)
+  lists-length = length-cut (keys w (l .starts)) (keys w (l .ends)) (λ i. getD (l .values) i (pos 0)) 0 (l .counts)
+
+-- no join over lists admits a point that none has
+nothing-there : (join : Join) (combiner : ℕ) (ls : List (List Range)) → 0 < length ls → rule-of (operation join combiner) (nones ls) ≡ none
+nothing-there join combiner [] h = absurd (omega arith)
+nothing-there join combiner (l ∷ ls) h = rule-nones (operation join combiner) l ls
+
+module _ {P : Type 0} {w : Width P} {l : Lent P} (f : Formed w l) (some-list : 0 < length (l .counts)) (join : Join) (combiner : ℕ) where
+  abbrev pieces : List Range
+  pieces = merged (operation join combiner) (w .points) (lists w l)
+
+  nothing : rule-of (operation join combiner) (nones (lists w l)) ≡ none
+  nothing = nothing-there join combiner (lists w l) (omega (arith, lists-length w l))
+
+  -- there is room for all pieces, where they are written
+  pub joinable : {write : Bool} {c : Merged P} → (write ≡ true → length pieces ≤ merged-room w c) → Joinable w (operation join combiner) (lists w l) write c
+  joinable h =
+      record {
+        formed = f .formed;
+        few = omega (arith, lists-length w l, f .lists-few);
+        nothing = nothing;
+        enough = merged-enough (operation join combiner) (w .points) (lists w l) (f .formed) (omega (arith, lists-size w l, f .adds-up, f .ranges-few));
+        room = h;
+      }
+
+  -- as many as there can be
+  most-enough : length pieces ≤ max 1 (2 * length (l .starts) - 1)
+  unfolding merged
+  most-enough = omega (arith, runs-room eqℤ (rule-of (operation join combiner)) (w .points) (lists w l) decides-ℤ (f .formed) nothing, lists-size w l, f .adds-up)
+
+  -- where there is sure to be room the first pass writes
+  pub room-sure : (c : Merged P) {most room : ℕ} → most ≡ max 1 (2 * length (l .starts) - 1) → room ≡ merged-room w c → leb most room ≡ true → length pieces ≤ merged-room w c
+  room-sure c {most} {room} e q h = omega (arith, most-enough, leb-true most room h)
+
+  module _ {c : Merged P} where
+    -- all pieces are written
+    finished : {d : Merged P} {n : ℕ} → length pieces ≤ merged-room w c → Passed w (operation join combiner) (lists w l) true c d n → Joined w (operation join combiner) (lists w l) c d (Done n)
+    finished h p = record { is = rw (le-leb (length pieces) (merged-room w c) h, p .count, p .laid) }
+
+    module _ {d : Merged P} {sure : Bool} {n : ℕ} (p : Passed w (operation join combiner) (lists w l) sure c d n) where
+      pub joined-sure : length pieces ≤ merged-room w c → sure ≡ true → Joined w (operation join combiner) (lists w l) c d (Done n)
+      joined-sure h e = finished h (rw e at p)
+
+      -- else it counts
+      module _ (e : sure ≡ false) {room : ℕ} (q : room ≡ merged-room w c) where
+        kept : d ≡ c
+        kept = rw e at (p .laid)
+
+        pub joined-not : room < n → Joined w (operation join combiner) (lists w l) c d (NoRoom n)
+        joined-not h = let k = p .count in record { is = rw (lt-leb (length pieces) (merged-room w c) (omega arith), k, kept) }
+
+        pub room-counted : n ≤ room → length pieces ≤ merged-room w d
+        room-counted h = let k = p .count in rw kept (omega arith)
+
+        pub joined-again : n ≤ room → {d' : Merged P} {n' : ℕ} → Passed w (operation join combiner) (lists w l) true d d' n' → Joined w (operation join combiner) (lists w l) c d' (Done n')
+        joined-again h p' = let k = p .count in finished (omega arith) (rw kept at p')
+
+-- over zero lists
+module _ {P : Type 0} {w : Width P} {c : Merged P} {join : Join} (combiner : ℕ) (k : known combiner ≡ true) where
+  pub none-full : join ≡ Full → Joined w (operation join combiner) [] c c (Done 0)
+  none-full e = record { is = rw (e, full-of-none combiner (w .points), le-leb 0 (merged-room w c) (omega arith)) }
+
+  module _ (e : join ≡ Inner) where
+    pub none-lacks : 0 < w .points → merged-room w c ≡ 0 → Joined w (operation join combiner) [] c c (NoRoom 1)
+    none-lacks n h = record { is = rw (e, inner-of-none combiner (w .points) k n, lt-leb 1 (merged-room w c) (omega arith)) }
+
+    pub none-inner : {greatest : ℕ} → greatest + 1 ≡ w .points → 0 < merged-room w c → {d : Merged P} {r : ℕ} → Put w true 0 (Held (record { start = 0; end = greatest; value = pos 0 })) c d r → Joined w (operation join combiner) [] c d (Done r)
+    none-inner {greatest} n h p =
+        let q : pred (w .points) ≡ greatest = omega arith in
+        record { is = rw (e, inner-of-none combiner (w .points) k (omega arith), q, le-leb 1 (merged-room w c) (omega arith), p .count, p .is) (ap (leaves (Done 1)) (lay-put w c true [] (Held (record { start = 0; end = greatest; value = pos 0 })) (λ t. omega arith))) }
+
+module _ {P : Type 0} (w : Width P) (l : Lent P) (join : Join) (combiner : ℕ) {j : Judgement} (found : j ≡ judge w (JoinBy combiner) l) where
+  kind : (join : Join) → kind-of (operation join combiner) ≡ JoinBy combiner
+  kind Inner = refl
+  kind Full = refl
+
+  pub refused : {a : Answer} {c : Merged P} → j ≡ Refused a → leaves a c ≡ merging w (operation join combiner) l c
+  unfolding merging
+  refused h = rw (kind join, sym found ∙ h)
+
+  module _ (h : j ≡ Sound) where
+    sound : judge w (JoinBy combiner) l ≡ Sound
+    sound = sym found ∙ h
+
+    known-combiner : known combiner ≡ true
+    known-combiner = not-false (known combiner) (sound-limits w (JoinBy combiner) l sound .known-combiner)
+
+    -- each end has a key
+    pub formed : ((i : ℕ) → i < length (l .ends) → keys w (l .ends) i < w .points) → Formed w l
+    formed low =
+        let f = sound-limits w (JoinBy combiner) l sound in
+        record {
+          lists-few = f .lists-few;
+          ranges-few = f .ranges-few;
+          starts-long = sym (f .agree .values-long);
+          ends-long = f .agree .ends-long ∙ sym (f .agree .values-long);
+          adds-up = f .agree .adds-up;
+          formed = sound-lists w (JoinBy combiner) l sound low (λ i. getD (l .values) i (pos 0));
+        }
+
+    pub joined : {c d : Merged P} {a : Answer} → Joined w (operation join combiner) (lists w l) c d a → leaves a d ≡ merging w (operation join combiner) l c
+    unfolding merging
+    joined p = p .is ∙ rw (kind join, sound)
+
+    -- there are no lists
+    pub joined-none : length (l .counts) ≡ 0 → {c d : Merged P} {a : Answer} → ((combiner : ℕ) → known combiner ≡ true → Joined w (operation join combiner) [] c d a) → leaves a d ≡ merging w (operation join combiner) l c
+    joined-none e {c} {d} {a} p = joined (subst (λ ls. Joined w (operation join combiner) ls c d a) (sym (go (l .counts) e)) (p combiner known-combiner))
+      where
+        go : (ns : List ℕ) → length ns ≡ 0 → cut (keys w (l .starts)) (keys w (l .ends)) (λ i. getD (l .values) i (pos 0)) 0 ns ≡ []
+        go [] e = refl
+        go (n ∷ ns) e = absurd (omega arith)
+
+-- arrays of zeros
+pub blank : Blank (let z = replicate 16 0 in arrays z z z z z z)
+blank = record { next-long = refl; stops-long = refl; starts-whole = record { keys = refl; lists = refl }; ends-whole = record { keys = refl; lists = refl } }
+
+-- the sweep of the lists that are lent begins
+pub begins : {P : Type 0} {w : Width P} {l : Lent P} {o : Operation} {a : Arrays} {held : Step} {write : Bool} {c : Merged P} → Formed w l → Joinable w o (lists w l) write c → Ready w (columns (l .starts) (l .ends) (l .values)) a held (events (lists w l)) → Begins w o (lists w l) (columns (l .starts) (l .ends) (l .values)) a held (length (l .counts)) write c
+begins {w = w} {l = l} f j r = record { lists-are = sym (lists-length w l); joinable = j; ready = r }

@@ -1,0 +1,18 @@
+-- `multiway_join::push_merged` meets its contract. Assumes nothing.
+use borrow.Author.Needs.{needs}
+use mir.Syntax.{w64}
+use Rattle.integer.proofs.Laws.{back}
+use Rattle.multiway_join.proofs.Pieces.{apart-held, pushed-first, pushed-merged, pushed-after}
+use Rattle.multiway_join.proofs.push_merged.Statement.{statement}
+use Rattle.multiway_join.proofs.push_merged.Tie as tie
+
+pub push-merged-spec : {M : Type 1} → statement M
+push-merged-spec =
+    tie.close
+    (tie.spec
+    (λ c. search needs)
+    (λ c. search needs)
+    (λ c. pushed-first (c .enum-told .given .1))
+    (λ c κs. let a : tie.Start = search in apart-held (a .args .next) (c .before .pending .given .1) (a .pre))
+    (λ c. let h : tie.After-pending = search in let t : tie.After-touches = search in pushed-merged (h .pending .given .1) (t .touches .ensures) (c .before .if1 .taken) (back w64 _ (c .struct-told .given .1 .1 .0 .1)))
+    (λ c. let h : tie.After-pending = search in let t : tie.After-touches = search in pushed-after (h .pending .given .1) (t .touches .ensures) (c .if1 .left)))
