@@ -37,6 +37,9 @@ const fn universe(
 /// Crowded cases of each width.
 const CROWDED: u64 = 100;
 
+/// Random event listings of each width, beside those among the random cases.
+const LISTED: u64 = 100_000;
+
 /// What the comparison is asked for: a seed, and how many random cases in all.
 #[derive(Clone, Copy)]
 pub struct Plan {
@@ -88,9 +91,11 @@ fn parts<T: Point>(plan: Plan) -> Vec<Part<T>> {
         parts.push((name, Box::new(every_set(universe))));
     }
     let well_formed = (0..2 * quarter).map(move |number| generator::well_formed(seed, number));
+    let listed = (0..LISTED).map(move |number| generator::listed(seed, number));
     let crowded = (0..CROWDED).map(move |number| generator::crowded(seed, number));
     let malformed = (0..quarter).map(move |number| faults::malformed(seed, number));
     parts.push(("well-formed lists", Box::new(well_formed)));
+    parts.push(("event listings", Box::new(listed)));
     parts.push(("crowded lists", Box::new(crowded)));
     parts.push(("every room", Box::new(generator::every_room(seed, quarter))));
     parts.push(("malformed lists", Box::new(malformed)));

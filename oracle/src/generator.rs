@@ -26,6 +26,15 @@ struct Spread {
 pub fn well_formed<T: Point>(seed: u64, number: u64) -> Case<T> {
     let random = &mut Random::of_case(seed, "well formed", number);
     let operation = random.pick(&Operation::ALL);
+    well_formed_of(random, operation, number)
+}
+
+/// Random lists whose events are listed, sometimes with too little room.
+pub fn listed<T: Point>(seed: u64, number: u64) -> Case<T> {
+    well_formed_of(&mut Random::of_case(seed, "listed", number), Operation::Events, number)
+}
+
+fn well_formed_of<T: Point>(random: &mut Random, operation: Operation, number: u64) -> Case<T> {
     let lent = Lent::from_lists(&lists(random, operation, USUAL));
     let room = most_pieces(&lent);
     let room = if random.once_in(8) { random.below(room) } else { room };
