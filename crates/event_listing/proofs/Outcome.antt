@@ -5,7 +5,7 @@ use native.Mathlib.Omega.{arith}
 use lib.ListN.{length}
 use borrow.Author.Tests.{le-leb, lt-leb}
 use Rattle.rules.specs.Lists.{Width, Lent}
-use Rattle.rules.specs.Answer.{judge}
+use Rattle.rules.specs.Answer.{judge, leaves}
 use Rattle.rules.specs.Outcomes.{Listed, listed-room, listing}
 use Rattle.rules.specs.declared.Answer.{Answer}
 use Rattle.rules.specs.declared.Answer.the-variants.{Done, NoRoom}
@@ -14,7 +14,7 @@ use Rattle.rules.specs.declared.Judgement.the-variants.{Sound, Refused}
 use Rattle.rules.specs.declared.Kind.the-variants.{Listing}
 use Rattle.form.specs.Shape.{Found}
 use Rattle.form.proofs.Sound.{Formed, sound}
-use Rattle.event_listing.specs.Listing.{leaves, all, Listable, Wrote}
+use Rattle.event_listing.specs.Listing.{all, Listable, Wrote}
 use Rattle.event_listing.proofs.Rows.{events-count}
 
 module _ {P : Type 0} (w : Width P) (l : Lent P) {f : Judgement} (found : Found w (l .ends) 0 (length (l .ends)) (judge w Listing l) f) where

@@ -1,12 +1,11 @@
 -- Events written at the front of columns, one after the other. Assumes nothing.
 use Prim.Native.Nat.{ℕ, suc, _+_, _*_, _≤_, _<_}
 use mathlib.Core.Path.{_≡_, refl, sym, ap, _∙_}
-use mathlib.Core.List.{List, [], _∷_, _++_, map, append-assoc}
+use mathlib.Core.List.{List, [], _∷_}
 use native.Mathlib.Omega.{arith}
-use native.Mathlib.Numerals.{add-one}
 use lib.IntN.{ℤ, pos}
-use lib.ListN.{length, getD, take, drop, set, length-append, length-take, length-drop, length-map, take-append-drop}
-use lib.Seq.{take-suc, drop-cons, set-at, take-all, length-take-le}
+use lib.ListN.{length, getD, take, drop, set, length-take, length-drop, take-append-drop}
+use lib.Seq.{take-all}
 use Rattle.heap.specs.Heap.{held, Whole}
 use Rattle.rules.specs.Piece.{Piece, Within, AllWellFormed}
 use Rattle.rules.specs.Lists.{Width, Lent, cut, total, keys, lists}
@@ -17,6 +16,7 @@ use Rattle.rules.specs.Refusals.{Agree}
 use Rattle.rules.specs.Proving.Below.{size}
 use Rattle.rules.proofs.At.{within-le}
 use Rattle.rules.proofs.Columns.{length-ranges}
+use Rattle.rules.proofs.Fronts.{drop-lt, drop-more, front-long, front-more}
 use Rattle.rules.proofs.Sweep.{all-map, all-append, all-right, all-sort, events-length}
 use Rattle.multiway_sweep.specs.Steps.{Arrays, columns as swept, arrays, Sweeping}
 use Rattle.multiway_sweep.specs.Begins.{Filled}
@@ -27,36 +27,6 @@ use Rattle.event_listing.specs.declared.Row.{Row}
 
 pub row-put : {P : Type 0} {w : Width P} {n : ℕ} {e : Event ℤ} {r : Row} {c : Listed P} → RowOf e r → {ps : List P} {v : ℤ} → ps ≡ set (c .point) n (w .point (r .key)) → v ≡ r .value → Put w n e c (columns (set (c .kind) n (r .kind)) ps (set (c .list) n (r .list)) (set (c .value) n v))
 row-put o p v = record { is = rw (p, v, o .kind, o .key, o .list, o .value) }
-
--- a list of which x stands at n
-module _ {R : Type 0} (l : List R) (n : ℕ) (x : R) (xs : List R) (e : drop n l ≡ x ∷ xs) where
-  drop-lt : n < length l
-  drop-lt = omega (arith, sym (length-drop n l) ∙ ap length e)
-
-  parted : getD l n x ∷ drop (suc n) l ≡ x ∷ xs
-  parted = sym (drop-cons l n x drop-lt) ∙ e
-
-  drop-more : drop (n + 1) l ≡ xs
-  drop-more = let h = parted in rw add-one (cc)
-
-  take-more : take (n + 1) l ≡ take n l ++ (x ∷ [])
-  take-more = let h = parted in let g : getD l n x ≡ x = cc in rw (add-one, take-suc l n x drop-lt, g)
-
-  module _ {A : Type 0} (f : R → A) (old : List A) (h : length l ≤ length old) where
-    map-snoc : (rs : List R) → map f (rs ++ (x ∷ [])) ≡ map f rs ++ (f x ∷ [])
-    map-snoc [] = refl
-    map-snoc (r ∷ rs) = ap (λ (l : List A). f r ∷ l) (map-snoc rs)
-
-    -- it is written after those before it
-    front-more : set (front f (take n l) old) n (f x) ≡ front f (take (n + 1) l) old
-    front-more =
-        let z : length (take n l) ≡ n = length-take-le n l (omega (arith, drop-lt)) in
-        let p : length (map f (take n l)) ≡ n = length-map (take n l) f ∙ z in
-        let q : length (take n l ++ (x ∷ [])) ≡ suc n = length-append (take n l) (x ∷ []) ∙ ap (λ (k : ℕ). k + 1) z ∙ add-one n in
-        rw (take-more, z, drop-cons old n (f x) (omega (arith, drop-lt)), q, map-snoc, append-assoc) (set-at (map f (take n l)) (getD old n (f x)) (drop (suc n) old) (f x) n p)
-
-front-long : {R A : Type 0} (f : R → A) (l : List R) (n : ℕ) (old : List A) → length l ≤ length old → length (front f (take n l) old) ≡ length old
-front-long f l n old h = simp (length-append, length-map, length-drop, length-take) (omega arith)
 
 module _ {A : Type 0} where
   -- an event's point is one of n, and its list one of m
@@ -108,11 +78,11 @@ module _ {P : Type 0} {w : Width P} {l : Lent P} {c : Listed P} where
     room = f .listable .room
 
     pub written-long : Long c d
-    written-long = rw (f .laid) (let h = room in record {
-      kind = front-long kind (all w l) n (c .kind) (omega arith);
-      point = front-long (λ x. w .point (point x)) (all w l) n (c .point) (omega arith);
-      list = front-long list (all w l) n (c .list) (omega arith);
-      value = front-long event-value (all w l) n (c .value) (omega arith);
+    written-long = rw (f .laid) (let h = room in let k = length-take n (all w l) in record {
+      kind = front-long kind (take n (all w l)) (c .kind) (omega arith);
+      point = front-long (λ x. w .point (point x)) (take n (all w l)) (c .point) (omega arith);
+      list = front-long list (take n (all w l)) (c .list) (omega arith);
+      value = front-long event-value (take n (all w l)) (c .value) (omega arith);
     })
 
     pub written-last : drop n (all w l) ≡ [] → Wrote w l c d
@@ -144,4 +114,4 @@ module _ {P : Type 0} {w : Width P} {l : Lent P} {c : Listed P} where
       }
         where
           more : {A : Type 0} (f : Event ℤ → A) (old : List A) → length (all w l) ≤ length old → set (front f (take n (all w l)) old) n (f e) ≡ front f (take (n + 1) (all w l)) old
-          more f old h = front-more (all w l) n e (s .0) (s .1) f old h
+          more f old h = front-more f (all w l) n e (s .0) old (s .1) h

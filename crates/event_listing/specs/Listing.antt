@@ -6,22 +6,14 @@ use lib.IntN.{ℤ}
 use lib.ListN.{length, set}
 use Rattle.rules.specs.Piece.{AllWellFormed}
 use Rattle.rules.specs.Lists.{Width, Lent, lists}
-use Rattle.rules.specs.Answer.{Outcome}
 use Rattle.rules.specs.Refusals.{Agree}
 use Rattle.rules.specs.Sweep.{Event, point, kind, list, events}
 use Rattle.rules.specs.Outcomes.{Listed, event-value, listed-room, lay-listed}
-use Rattle.rules.specs.declared.Answer.{Answer}
 use Rattle.event_listing.specs.declared.Row.{Row}
 
--- what is lent, the four columns, and what a call leaves
-abbrev pub lent : {P : Type 0} → List P → List P → List ℤ → List ℕ → Lent P
-lent s e v n = record { starts = s; ends = e; values = v; counts = n }
-
+-- the four columns
 abbrev pub columns : {P : Type 0} → List ℕ → List P → List ℕ → List ℤ → Listed P
 columns k p l v = record { kind = k; point = p; list = l; value = v }
-
-abbrev pub leaves : {C : Type 0} → Answer → C → Outcome C
-leaves a c = record { answer = a; columns = c }
 
 -- the row of an event
 pub record RowOf (e : Event ℤ) (r : Row) : Type 0 where

@@ -1,6 +1,4 @@
 // The event listing: every start and end of the lists' ranges, in the order of the sweep.
-pub mod instant;
-pub mod seat;
 
 use multiway_sweep::Event;
 ghost use Prim.Native.Nat.{_<_, min};
@@ -17,7 +15,7 @@ pub struct Row {
     pub value: i32,
 }
 
-fn row_of(found: Event) -> Row
+pub fn row_of(found: Event) -> Row
     requires { ⌜ list (event found) < 256 ⌝ }
     ensures { λ r. ⌜ RowOf (event found) r ⌝ }
 {
@@ -37,14 +35,14 @@ fn row_of(found: Event) -> Row
     }
 }
 
-fn shorter(a: usize, b: usize) -> usize
+pub fn shorter(a: usize, b: usize) -> usize
     ensures { λ r. ⌜ r ≡ min a b ⌝ }
 {
     if a < b { a } else { b }
 }
 
 // The length of the shortest of four columns.
-fn shortest(a: usize, b: usize, c: usize, d: usize) -> usize
+pub fn shortest(a: usize, b: usize, c: usize, d: usize) -> usize
     ensures { λ r. ⌜ r ≡ min a (min b (min c d)) ⌝ }
 {
     shorter(a, shorter(b, shorter(c, d)))

@@ -1,6 +1,6 @@
 use crate::row;
 use crate::say;
-use event_listing::instant::list_events;
+use event_listing_instant::list_events;
 use integer::instant::Point;
 use integer::instant::greatest;
 use integer::instant::key;

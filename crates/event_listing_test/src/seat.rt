@@ -1,6 +1,6 @@
 use crate::row;
 use crate::say;
-use event_listing::seat::list_events;
+use event_listing_seat::list_events;
 use integer::seat::Point;
 use integer::seat::greatest;
 use integer::seat::key;

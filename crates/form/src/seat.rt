@@ -6,7 +6,6 @@ use integer::seat::Point;
 use integer::seat::key_at;
 use rules::Judgement;
 use rules::Kind;
-ghost use mathlib.Core.Path.{_≡_};
 ghost use Prim.Native.Nat.{_-_, _≤_};
 ghost use mathlib.Core.Option.{none};
 ghost use lib.ListN.{length};

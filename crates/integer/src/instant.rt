@@ -11,6 +11,49 @@ pub type Point = i64;
 // The key of the point 0.
 const ZERO: u64 = 9223372036854775808;
 
+pub fn least() -> Point
+    ensures { λ r. ⌜ instants .key r ≡ 0 ⌝ }
+{
+    i64::MIN
+}
+
+pub fn greatest() -> Point
+    ensures { λ r. ⌜ instants .key r + 1 ≡ instants .points ⌝ }
+{
+    i64::MAX
+}
+
+// A point's key: its distance from the least point.
+pub fn key(a: Point) -> u64
+    ensures { λ r. ⌜ r ≡ instants .key a ⌝ }
+{
+    if a < 0 {
+        (a - i64::MIN) as u64
+    } else {
+        a as u64 + ZERO
+    }
+}
+
+// The point with a key.
+pub fn point(k: u64) -> Point
+    requires { ⌜ k < instants .points ⌝ }
+    ensures { λ r. ⌜ r ≡ instants .point k ⌝ }
+{
+    if k < ZERO {
+        k as i64 + i64::MIN
+    } else {
+        (k - ZERO) as i64
+    }
+}
+
+pub fn greatest_key() -> u64
+    ensures { λ r. ⌜ r + 1 ≡ instants .points ⌝ }
+{
+    18446744073709551615
+}
+
+// Alike in both widths.
+
 // The point after another.
 pub enum Next {
     At(Point),
@@ -53,47 +96,6 @@ pub fn sub_one(a: Point) -> Point
     ensures { λ r. ⌜ instants .key r + 1 ≡ instants .key a ⌝ }
 {
     a - 1
-}
-
-pub fn least() -> Point
-    ensures { λ r. ⌜ instants .key r ≡ 0 ⌝ }
-{
-    i64::MIN
-}
-
-pub fn greatest() -> Point
-    ensures { λ r. ⌜ instants .key r + 1 ≡ instants .points ⌝ }
-{
-    i64::MAX
-}
-
-// A point's key: its distance from the least point.
-pub fn key(a: Point) -> u64
-    ensures { λ r. ⌜ r ≡ instants .key a ⌝ }
-{
-    if a < 0 {
-        (a - i64::MIN) as u64
-    } else {
-        a as u64 + ZERO
-    }
-}
-
-// The point with a key.
-pub fn point(k: u64) -> Point
-    requires { ⌜ k < instants .points ⌝ }
-    ensures { λ r. ⌜ r ≡ instants .point k ⌝ }
-{
-    if k < ZERO {
-        k as i64 + i64::MIN
-    } else {
-        (k - ZERO) as i64
-    }
-}
-
-pub fn greatest_key() -> u64
-    ensures { λ r. ⌜ r + 1 ≡ instants .points ⌝ }
-{
-    18446744073709551615
 }
 
 // The key of the point at a place of a column.

@@ -8,6 +8,41 @@ ghost use Rattle.integer.specs.KeyAt.{KeyAt};
 
 pub type Point = u32;
 
+pub fn least() -> Point
+    ensures { λ r. ⌜ seats .key r ≡ 0 ⌝ }
+{
+    u32::MIN
+}
+
+pub fn greatest() -> Point
+    ensures { λ r. ⌜ seats .key r + 1 ≡ seats .points ⌝ }
+{
+    u32::MAX
+}
+
+// A point's key: its distance from the least point.
+pub fn key(a: Point) -> u64
+    ensures { λ r. ⌜ r ≡ seats .key a ⌝ }
+{
+    a as u64
+}
+
+// The point with a key.
+pub fn point(k: u64) -> Point
+    requires { ⌜ k < seats .points ⌝ }
+    ensures { λ r. ⌜ r ≡ seats .point k ⌝ }
+{
+    k as u32
+}
+
+pub fn greatest_key() -> u64
+    ensures { λ r. ⌜ r + 1 ≡ seats .points ⌝ }
+{
+    4294967295
+}
+
+// Alike in both widths.
+
 // The point after another.
 pub enum Next {
     At(Point),
@@ -50,39 +85,6 @@ pub fn sub_one(a: Point) -> Point
     ensures { λ r. ⌜ seats .key r + 1 ≡ seats .key a ⌝ }
 {
     a - 1
-}
-
-pub fn least() -> Point
-    ensures { λ r. ⌜ seats .key r ≡ 0 ⌝ }
-{
-    u32::MIN
-}
-
-pub fn greatest() -> Point
-    ensures { λ r. ⌜ seats .key r + 1 ≡ seats .points ⌝ }
-{
-    u32::MAX
-}
-
-// A point's key: its distance from the least point.
-pub fn key(a: Point) -> u64
-    ensures { λ r. ⌜ r ≡ seats .key a ⌝ }
-{
-    a as u64
-}
-
-// The point with a key.
-pub fn point(k: u64) -> Point
-    requires { ⌜ k < seats .points ⌝ }
-    ensures { λ r. ⌜ r ≡ seats .point k ⌝ }
-{
-    k as u32
-}
-
-pub fn greatest_key() -> u64
-    ensures { λ r. ⌜ r + 1 ≡ seats .points ⌝ }
-{
-    4294967295
 }
 
 // The key of the point at a place of a column.

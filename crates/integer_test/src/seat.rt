@@ -1,5 +1,6 @@
 use crate::say;
 use integer::seat::Next;
+use integer::seat::Point;
 use integer::seat::add_one;
 use integer::seat::checked_add_one;
 use integer::seat::greatest;
@@ -9,8 +10,8 @@ use integer::seat::same;
 use integer::seat::sub_one;
 
 pub fn ends() {
-    say(b"least", least() == u32::MIN);
-    say(b"greatest", greatest() == u32::MAX);
+    say(b"least", least() == Point::MIN);
+    say(b"greatest", greatest() == Point::MAX);
     say(b"least < greatest", less(least(), greatest()));
     say(b"not greatest < least", !less(greatest(), least()));
     say(b"not greatest < greatest", !less(greatest(), greatest()));
@@ -19,25 +20,25 @@ pub fn ends() {
 }
 
 pub fn steps() {
-    say(b"least + 1", add_one(u32::MIN) == u32::MIN + 1);
-    say(b"up to greatest", add_one(u32::MAX - 1) == u32::MAX);
-    say(b"greatest - 1", sub_one(u32::MAX) == u32::MAX - 1);
-    say(b"down to least", sub_one(u32::MIN + 1) == u32::MIN);
+    say(b"least + 1", add_one(Point::MIN) == Point::MIN + 1);
+    say(b"up to greatest", add_one(Point::MAX - 1) == Point::MAX);
+    say(b"greatest - 1", sub_one(Point::MAX) == Point::MAX - 1);
+    say(b"down to least", sub_one(Point::MIN + 1) == Point::MIN);
 }
 
 pub fn checked_steps() {
     say(
         b"after least",
-        is_at(checked_add_one(u32::MIN), u32::MIN + 1),
+        is_at(checked_add_one(Point::MIN), Point::MIN + 1),
     );
     say(
         b"to greatest",
-        is_at(checked_add_one(u32::MAX - 1), u32::MAX),
+        is_at(checked_add_one(Point::MAX - 1), Point::MAX),
     );
-    say(b"past greatest", is_past(checked_add_one(u32::MAX)));
+    say(b"past greatest", is_past(checked_add_one(Point::MAX)));
 }
 
-fn is_at(n: Next, a: u32) -> bool {
+fn is_at(n: Next, a: Point) -> bool {
     match n {
         Next::At(b) => b == a,
         Next::Past => false,

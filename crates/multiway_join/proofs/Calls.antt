@@ -10,7 +10,7 @@ use lib.Seq.{take-at}
 use Rattle.integer.specs.Faithful.{Faithful}
 use Rattle.rules.specs.Piece.{Range, column, Within, AllWellFormed}
 use Rattle.rules.specs.Lists.{Width, Lent, lists}
-use Rattle.rules.specs.Answer.{Outcome, judge, settle, front}
+use Rattle.rules.specs.Answer.{Outcome, judge, settle, front, leaves}
 use Rattle.rules.specs.Outcomes.{Operation, kind-of, rule-of, merged, Merged, merged-room, lay-merged, merging}
 use Rattle.rules.specs.Refusals.{turn}
 use Rattle.rules.specs.declared.Answer.the-variants.{Done}
@@ -19,7 +19,6 @@ use Rattle.rules.specs.declared.Judgement.the-variants.{Sound, Refused}
 use Rattle.rules.proofs.At.{within-le}
 use Rattle.rules.proofs.Condition3.{halves, merged-right, merged-same, merged-cut}
 use Rattle.rules.proofs.Refusals.{given, done-writes, refused-early, sound-lists}
-use Rattle.multiway_join.specs.Pieces.{leaves}
 
 -- the first n places of the columns
 abbrev pub written : {P : Type 0} → ℕ → Merged P → Merged P

@@ -20,11 +20,11 @@ use Rattle.rules.proofs.Runs.{extend-below, nothing-below, runs-only}
 use Rattle.rules.proofs.Same.{decides-ℤ}
 use Rattle.multiway_sweep.specs.Steps.{Columns, Arrays}
 use Rattle.multiway_sweep.specs.declared.Range.{Range as Span}
-use Rattle.multiway_join.specs.Active.{Slots, active}
-use Rattle.multiway_join.specs.Stretches.{Stretches}
+use Rattle.join_sweep.specs.Active.{Slots, active}
+use Rattle.join_sweep.specs.Stretches.{Stretches}
 use Rattle.multiway_join.specs.Pieces.{piece-of, waiting, Apart, PushedOn, Puttable, Put, lay}
 use Rattle.multiway_join.specs.Passes.{Joinable, Passed}
-use Rattle.multiway_join.specs.declared.JoinSweep.{JoinSweep}
+use Rattle.join_sweep.specs.declared.JoinSweep.{JoinSweep}
 use Rattle.multiway_join.specs.declared.Piece.{Piece}
 use Rattle.multiway_join.specs.declared.Pending.{Pending}
 use Rattle.multiway_join.specs.declared.Pending.the-variants.{Nothing, Held}

@@ -11,7 +11,7 @@ use lib.ListN.{length, getD, replicate}
 use borrow.Author.Tests.{le-leb, lt-leb, leb-true, not-false}
 use Rattle.rules.specs.Piece.{Range}
 use Rattle.rules.specs.Lists.{Width, Lent, keys, cut, total, lists}
-use Rattle.rules.specs.Answer.{known, judge}
+use Rattle.rules.specs.Answer.{known, judge, leaves}
 use Rattle.rules.specs.Same.{eqℤ}
 use Rattle.rules.specs.Sweep.{events}
 use Rattle.rules.specs.Outcomes.{Operation, kind-of, rule-of, merged, Merged, merged-room, merging}
@@ -27,10 +27,10 @@ use Rattle.rules.proofs.Room.{runs-room, rule-nones, merged-enough, inner-of-no
 use Rattle.rules.proofs.Same.{decides-ℤ}
 use Rattle.multiway_sweep.specs.Steps.{Arrays, columns, arrays}
 use Rattle.multiway_sweep.specs.declared.Step.{Step}
-use Rattle.multiway_join.specs.Active.{operation}
-use Rattle.multiway_join.specs.Stretches.{Ready}
-use Rattle.multiway_join.specs.Pieces.{leaves, Put}
-use Rattle.multiway_join.specs.Passes.{Joinable, Begins, Passed, Joined, Formed, Blank}
+use Rattle.join_sweep.specs.Stretches.{Ready}
+use Rattle.join_sweep.specs.Begins.{Formed, Blank}
+use Rattle.multiway_join.specs.Pieces.{Put, operation}
+use Rattle.multiway_join.specs.Passes.{Joinable, Begins, Passed, Joined}
 use Rattle.multiway_join.specs.declared.Join.{Join}
 use Rattle.multiway_join.specs.declared.Join.the-variants.{Inner, Full}
 use Rattle.multiway_join.specs.declared.Pending.the-variants.{Held}

@@ -19,14 +19,14 @@ use Rattle.rules.specs.Outcomes.{admits, rule-of}
 use Rattle.rules.specs.Runs.{touch}
 use Rattle.rules.specs.Same.{eqℤ}
 use Rattle.rules.proofs.Same.{decides-ℤ}
-use Rattle.multiway_join.specs.Active.{Slots, active, Counted, operation, needed-of}
-use Rattle.multiway_join.specs.Pieces.{piece-of, Apart, PushedOn}
+use Rattle.join_sweep.specs.Active.{Slots, active, Counted}
+use Rattle.multiway_join.specs.Pieces.{piece-of, Apart, PushedOn, operation, needed-of}
 use Rattle.multiway_join.specs.declared.Join.{Join}
 use Rattle.multiway_join.specs.declared.Join.the-variants.{Inner, Full}
 use Rattle.multiway_join.specs.declared.Piece.{Piece}
 use Rattle.multiway_join.specs.declared.Pending.{Pending}
 use Rattle.multiway_join.specs.declared.Pending.the-variants.{Nothing, Held}
-use Rattle.multiway_join.proofs.Active.{active-length, count-upto}
+use Rattle.join_sweep.proofs.Active.{active-length, count-upto}
 
 module _ {A : Type 0} where
   every-yes : (os : List (Option A)) → length os ≤ length (present os) → every os ≡ true

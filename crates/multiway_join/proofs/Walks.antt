@@ -17,20 +17,20 @@ use Rattle.multiway_sweep.specs.Steps.{Columns, Arrays}
 use Rattle.multiway_sweep.specs.declared.Range.{Range as Span}
 use Rattle.multiway_sweep.specs.declared.Step.{Step}
 use Rattle.multiway_sweep.proofs.Front.{front-first}
-use Rattle.multiway_join.specs.Active.{Slots, slots-of, active, Counted}
-use Rattle.multiway_join.specs.Stretches.{Joining, Stretches, Found}
+use Rattle.join_sweep.specs.Active.{Slots, slots-of, active, Counted}
+use Rattle.join_sweep.specs.Stretches.{Joining, Stretches, Found}
 use Rattle.multiway_join.specs.Pieces.{says-of, piece-of, Apart, PushedOn, Puttable, Put}
 use Rattle.multiway_join.specs.Passes.{Begins}
-use Rattle.multiway_join.specs.declared.JoinSweep.{JoinSweep}
+use Rattle.join_sweep.specs.declared.JoinSweep.{JoinSweep}
 use Rattle.multiway_join.specs.declared.Pending.{Pending}
 use Rattle.multiway_join.specs.declared.Pending.the-variants.{Held}
 use Rattle.multiway_join.specs.declared.Piece.{Piece}
 use Rattle.multiway_join.specs.declared.Pushed.{Pushed}
 use Rattle.multiway_join.specs.declared.Said.{Said}
 use Rattle.multiway_join.specs.declared.Said.the-variants.{Nothing as NotSaid, Value}
-use Rattle.multiway_join.specs.declared.Stretch.{Stretch}
-use Rattle.multiway_join.specs.declared.Stretch.the-variants.{Next as Spans, Done as NoMore}
-use Rattle.multiway_join.proofs.Active.{nones-count}
+use Rattle.join_sweep.specs.declared.Stretch.{Stretch}
+use Rattle.join_sweep.specs.declared.Stretch.the-variants.{Next as Spans, Done as NoMore}
+use Rattle.join_sweep.proofs.Active.{nones-count}
 use Rattle.multiway_join.proofs.Going.{Going, going-on, going-more, next-puttable, next-apart, after-push}
 
 no-false : (n i : ℕ) → getD (replicate n false) i false ≡ false

@@ -1,5 +1,3 @@
 -- What the contracts of the many-way joins say. Assumes nothing.
-pub mod Active
-pub mod Stretches
 pub mod Pieces
 pub mod Passes

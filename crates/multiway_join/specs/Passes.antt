@@ -6,18 +6,18 @@ use mathlib.Core.Option.{none}
 use mathlib.Core.List.{List}
 use lib.ListN.{length}
 use Rattle.rules.specs.Piece.{Range, AllWellFormed}
-use Rattle.rules.specs.Lists.{Width, Lent, lists, total}
-use Rattle.rules.specs.Answer.{settle}
+use Rattle.rules.specs.Lists.{Width, lists}
+use Rattle.rules.specs.Answer.{settle, leaves}
 use Rattle.rules.specs.Sweep.{events}
 use Rattle.rules.specs.Outcomes.{Operation, rule-of, merged, Merged, merged-room, lay-merged}
 use Rattle.rules.specs.Proving.Below.{nones}
 use Rattle.rules.specs.declared.Answer.{Answer}
 use Rattle.rules.specs.declared.Judgement.the-variants.{Sound}
-use Rattle.heap.specs.Heap.{held, Whole}
+use Rattle.heap.specs.Heap.{held}
 use Rattle.multiway_sweep.specs.Steps.{Columns, Arrays}
 use Rattle.multiway_sweep.specs.declared.Step.{Step}
-use Rattle.multiway_join.specs.Stretches.{Ready}
-use Rattle.multiway_join.specs.Pieces.{leaves, lay}
+use Rattle.join_sweep.specs.Stretches.{Ready}
+use Rattle.multiway_join.specs.Pieces.{lay}
 
 module _ {P : Type 0} (w : Width P) (o : Operation) (ls : List (List Range)) where
   -- lists of which some have to be present at a point, and room for all pieces where they are written
@@ -42,19 +42,3 @@ module _ {P : Type 0} (w : Width P) (o : Operation) (ls : List (List Range)) whe
   -- the outcome where nothing is refused before: all pieces, or that there is no room for them
   pub record Joined (c d : Merged P) (a : Answer) : Type 0 where
     pub is : leaves a d ≡ settle Sound (length (merged o (w .points) ls)) (merged-room w c) c (lay-merged w (merged o (w .points) ls) c)
-
--- lists that are lent within the limits, in columns of one length, and well formed
-pub record Formed {P : Type 0} (w : Width P) (l : Lent P) : Type 0 where
-  pub lists-few : length (l .counts) ≤ 16
-  pub ranges-few : length (l .starts) ≤ 2048
-  pub starts-long : length (l .starts) ≡ length (l .values)
-  pub ends-long : length (l .ends) ≡ length (l .values)
-  pub adds-up : total (l .counts) ≡ length (l .starts)
-  pub formed : AllWellFormed (w .points) (lists w l)
-
--- arrays for a sweep
-pub record Blank (a : Arrays) : Type 0 where
-  pub next-long : length (a .next) ≡ 16
-  pub stops-long : length (a .stops) ≡ 16
-  pub starts-whole : Whole (held (a .start-keys) (a .start-lists))
-  pub ends-whole : Whole (held (a .end-keys) (a .end-lists))

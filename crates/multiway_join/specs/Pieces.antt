@@ -7,18 +7,27 @@ use mathlib.Core.List.{List, [], _∷_, _++_}
 use lib.IntN.{ℤ}
 use lib.ListN.{length, set}
 use Rattle.rules.specs.Piece.{Range}
-use Rattle.rules.specs.Lists.{Width, Lent}
-use Rattle.rules.specs.Answer.{Outcome}
+use Rattle.rules.specs.Lists.{Width}
 use Rattle.rules.specs.Same.{eqℤ}
 use Rattle.rules.specs.Runs.{push}
-use Rattle.rules.specs.Outcomes.{Merged, merged-room, lay-merged}
-use Rattle.rules.specs.declared.Answer.{Answer}
+use Rattle.rules.specs.Outcomes.{Operation, inner, full, Merged, merged-room, lay-merged}
+use Rattle.multiway_join.specs.declared.Join.{Join}
+use Rattle.multiway_join.specs.declared.Join.the-variants.{Inner, Full}
 use Rattle.multiway_join.specs.declared.Said.{Said}
 use Rattle.multiway_join.specs.declared.Said.the-variants.{Nothing as NotSaid, Value}
 use Rattle.multiway_join.specs.declared.Piece.{Piece}
 use Rattle.multiway_join.specs.declared.Pending.{Pending}
 use Rattle.multiway_join.specs.declared.Pending.the-variants.{Nothing, Held}
 use Rattle.multiway_join.specs.declared.Pushed.{Pushed}
+
+abbrev pub operation : Join → ℕ → Operation
+operation Inner combiner = inner combiner
+operation Full combiner = full combiner
+
+-- how many lists have to have something for a point to be admitted
+abbrev pub needed-of : Join → ℕ → ℕ
+needed-of Inner lists = lists
+needed-of Full lists = 1
 
 abbrev pub says-of : Said → Option ℤ
 says-of NotSaid = none
@@ -41,15 +50,9 @@ Apart (Held x) y = x .end < y .start
 pub record PushedOn (p : Pending) (y : Piece) (r : Pushed) : Type 0 where
   pub is : waiting (r .done) ++ (piece-of (r .pending) ∷ []) ≡ push eqℤ (waiting p) (piece-of y)
 
--- what is lent, the output columns, and what a call leaves
-abbrev pub lent : {P : Type 0} → List P → List P → List ℤ → List ℕ → Lent P
-lent s e v n = record { starts = s; ends = e; values = v; counts = n }
-
+-- the output columns
 abbrev pub output : {P : Type 0} → List P → List P → List ℤ → Merged P
 output s e v = record { start = s; end = e; value = v }
-
-abbrev pub leaves : {C : Type 0} → Answer → C → Outcome C
-leaves a c = record { answer = a; columns = c }
 
 module _ {P : Type 0} (w : Width P) where
   -- there is a place for a piece where it is written, its points are points, and one more can be counted

@@ -1,6 +1,3 @@
-pub mod instant;
-pub mod seat;
-
 ghost use mathlib.Core.Path.{_≡_};
 ghost use Prim.Native.Nat.{_<_};
 ghost use Rattle.multiway_sweep.specs.Steps.{EndFirst};
@@ -33,13 +30,13 @@ pub enum Step {
 // Where a sweep stands: of each list the place of its next range and the place past its last, a heap of the starts of the
 // next ranges, and a heap of the ends of the active ones.
 pub struct Sweep {
-    next: [usize; 16],
-    stops: [usize; 16],
-    start_keys: [u64; 16],
-    start_lists: [u8; 16],
-    end_keys: [u64; 16],
-    end_lists: [u8; 16],
-    sizes: Sizes,
+    pub next: [usize; 16],
+    pub stops: [usize; 16],
+    pub start_keys: [u64; 16],
+    pub start_lists: [u8; 16],
+    pub end_keys: [u64; 16],
+    pub end_lists: [u8; 16],
+    pub sizes: Sizes,
 }
 
 // What a sweep has next: an event, or nothing is left.
@@ -54,7 +51,7 @@ pub struct Advance {
 }
 
 // Whether the earliest end comes before the next start: it closes first exactly when it is less.
-fn end_first(sizes: Sizes, start: u64, end: u64) -> bool
+pub fn end_first(sizes: Sizes, start: u64, end: u64) -> bool
     ensures { λ r. ⌜ EndFirst sizes start end r ⌝ }
 {
     if sizes.active_ends == 0 {
@@ -67,7 +64,7 @@ fn end_first(sizes: Sizes, start: u64, end: u64) -> bool
 }
 
 // A list's index as the heaps hold it.
-fn wide(list: u8) -> usize
+pub fn wide(list: u8) -> usize
     ensures { λ r. ⌜ (r ≡ list) × (r < 256) ⌝ }
 {
     list as usize

@@ -3,6 +3,7 @@ pub mod At
 pub mod Unique
 pub mod Push
 pub mod Columns
+pub mod Fronts
 pub mod Cuts
 pub mod Runs
 pub mod Same

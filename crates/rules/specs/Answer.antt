@@ -99,6 +99,9 @@ pub record Outcome (C : Type 0) : Type 0 where
   pub answer : Answer
   pub columns : C
 
+abbrev pub leaves : {C : Type 0} → Answer → C → Outcome C
+leaves a c = record { answer = a; columns = c }
+
 -- a refusal leaves the columns; else 8 where the pieces needed exceed the room, or they are written
 abbrev pub settle : {C : Type 0} → Judgement → ℕ → ℕ → C → C → Outcome C
 settle (Refused a) needed room before after = record { answer = a; columns = before }

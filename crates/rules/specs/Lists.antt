@@ -34,6 +34,9 @@ pub record Lent (P : Type 0) : Type 0 where
   pub values : List ℤ
   pub counts : List ℕ
 
+abbrev pub lent : {P : Type 0} → List P → List P → List ℤ → List ℕ → Lent P
+lent s e v n = record { starts = s; ends = e; values = v; counts = n }
+
 -- the range at place i starts at s i, ends at e i and has the value v i
 module _ {A : Type 0} (s e : ℕ → ℕ) (v : ℕ → A) where
   abbrev pub range : ℕ → Piece A

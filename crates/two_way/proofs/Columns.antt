@@ -1,20 +1,19 @@
 -- Columns written from the front: what a pass keeps from piece to piece. Assumes nothing.
-use Prim.Native.Nat.{ℕ, suc, _+_, _-_, _*_, _≤_, _<_}
-use mathlib.Core.Path.{_≡_, refl, sym, ap, subst, _∙_}
+use Prim.Native.Nat.{ℕ, _+_, _-_, _*_, _≤_, _<_}
+use mathlib.Core.Path.{_≡_, refl, ap, subst, _∙_}
 use mathlib.Core.Bool.{Bool, true, false}
-use mathlib.Core.List.{List, [], _∷_, map, _++_, append-assoc}
+use mathlib.Core.List.{List, [], _∷_}
 use native.Mathlib.Omega.{arith}
 use native.Mathlib.Nat.{lt-of-lt-of-le}
-use native.Mathlib.Numerals.{add-one}
 use lib.IntN.{ℤ}
-use lib.ListN.{length, getD, take, drop, set, length-append, length-take, length-drop, length-map}
-use lib.Seq.{take-suc, drop-cons, set-at, take-all, length-take-le}
+use lib.ListN.{length, take, drop, length-take}
+use lib.Seq.{take-all}
 use Rattle.rules.specs.Piece.{Piece}
 use Rattle.rules.specs.Lists.{Width}
-use Rattle.rules.specs.Answer.{front}
 use Rattle.rules.specs.TwoWay.{Pairing, Match, side-value, presence}
 use Rattle.rules.specs.Outcomes.{Paired, paired-room}
 use Rattle.rules.proofs.Columns.{length-ranges}
+use Rattle.rules.proofs.Fronts.{drop-lt, drop-more, drop-none, front-long, front-more}
 use Rattle.rules.proofs.Room.{paired-room as pieces-upto}
 use Rattle.two_way.specs.Sides.{piece-of, onward, Two, start-at, end-at, stop, all, remains}
 use Rattle.two_way.specs.Steps.{Begun, high, Ready, Took, Stepped}
@@ -25,42 +24,6 @@ use Rattle.two_way.specs.declared.Step.{Step}
 use Rattle.two_way.specs.declared.Step.the-variants.{Piece as Next, Done}
 use Rattle.two_way.proofs.Line.{paired-any}
 use Rattle.two_way.proofs.Sides.{side-fresh}
-
--- a list of which what is left past n starts with x
-module _ {R : Type 0} (l : List R) (n : ℕ) (x : R) (xs : List R) (e : drop n l ≡ x ∷ xs) where
-  drop-lt : n < length l
-  drop-lt = omega (arith, sym (length-drop n l) ∙ ap length e)
-
-  split : getD l n x ∷ drop (suc n) l ≡ x ∷ xs
-  split = sym (drop-cons l n x drop-lt) ∙ e
-
-  drop-more : drop (n + 1) l ≡ xs
-  drop-more = let h = split in rw add-one (cc)
-
-  take-more : take (n + 1) l ≡ take n l ++ (x ∷ [])
-  take-more = let h = split in let g : getD l n x ≡ x = cc in rw (add-one, take-suc l n x drop-lt, g)
-
-drop-none : {R : Type 0} (l : List R) (n : ℕ) → drop n l ≡ [] → length l ≤ n
-drop-none l n e = omega (arith, sym (length-drop n l) ∙ ap length e)
-
-module _ {R A : Type 0} (f : R → A) where
-  map-snoc : (rs : List R) (r : R) → map f (rs ++ (r ∷ [])) ≡ map f rs ++ (f r ∷ [])
-  map-snoc [] r = refl
-  map-snoc (x ∷ xs) r = ap (λ (l : List A). f x ∷ l) (map-snoc xs r)
-
-  -- one more at the front
-  front-snoc : (rs : List R) (r : R) (old : List A) (n : ℕ) → length rs ≡ n → n < length old → set (front f rs old) n (f r) ≡ front f (rs ++ (r ∷ [])) old
-  front-snoc rs r old n z h =
-      let p : length (map f rs) ≡ n = length-map rs f ∙ z in
-      let q : length (rs ++ (r ∷ [])) ≡ suc n = length-append rs (r ∷ []) ∙ ap (λ (k : ℕ). k + 1) z ∙ add-one n in
-      rw (z, drop-cons old n (f r) h, q, map-snoc rs r, append-assoc) (set-at (map f rs) (getD old n (f r)) (drop (suc n) old) (f r) n p)
-
-  front-long : (rs : List R) (old : List A) → length rs ≤ length old → length (front f rs old) ≡ length old
-  front-long rs old h = simp (length-append, length-map, length-drop) (omega arith)
-
-  front-more : (l : List R) (n : ℕ) (x : R) (xs : List R) (old : List A) → drop n l ≡ x ∷ xs → length l ≤ length old → set (front f (take n l) old) n (f x) ≡ front f (take (n + 1) l) old
-  front-more l n x xs old e h =
-      rw (take-more l n x xs e) (front-snoc (take n l) x old n (length-take-le n l (omega (arith, drop-lt l n x xs e))) (omega (arith, drop-lt l n x xs e)))
 
 module _ {P : Type 0} {t : Two P} {v : List ℤ} (f : Formed t v) where
   -- there are at most twice as many pieces as ranges, less one
@@ -82,6 +45,19 @@ pub record Long {P : Type 0} (c d : Paired P) : Type 0 where
 room-long : {P : Type 0} (w : Width P) {c d : Paired P} → Long c d → paired-room w d ≡ paired-room w c
 room-long w l = rw (l .start, l .end, l .left, l .right, l .presence)
 
+-- pieces that there is room for leave the lengths
+pub lay-long : {P : Type 0} (w : Width P) (v : List ℤ) (c : Paired P) (write : Bool) (xs : List (Piece Match)) → (write ≡ true → length xs ≤ paired-room w c) → Long c (lay w v write xs c)
+lay-long w v c false xs h = record { start = refl; end = refl; left = refl; right = refl; presence = refl }
+lay-long w v c true xs h =
+    let r = h refl in
+    record {
+      start = front-long _ xs (c .start) (omega arith);
+      end = front-long _ xs (c .end) (omega arith);
+      left = front-long _ xs (c .left) (omega arith);
+      right = front-long _ xs (c .right) (omega arith);
+      presence = front-long _ xs (c .presence) (omega arith);
+    }
+
 -- n of all pieces are done, and k has the rest: the columns before, and now
 pub record Going {P : Type 0} (t : Two P) (o : Pairing) (v : List ℤ) (write : Bool) (c d : Paired P) (k : Cursor) (n : ℕ) : Type 0 where
   pub formed : Formed t v
@@ -93,23 +69,7 @@ pub record Going {P : Type 0} (t : Two P) (o : Pairing) (v : List ℤ) (write : 
 
 module _ {P : Type 0} {t : Two P} {o : Pairing} {v : List ℤ} {write : Bool} {c d : Paired P} {k : Cursor} {n : ℕ} (g : Going t o v write c d k n) where
   pub going-long : Long c d
-  going-long = rw (g .laid) (go write (g .roomy))
-    where
-      xs : List (Piece Match)
-      xs = take n (all t o)
-
-      go : (w : Bool) → Room t o w c → Long c (lay (t .width) v w xs c)
-      go false h = record { start = refl; end = refl; left = refl; right = refl; presence = refl }
-      go true h =
-          let l = length-take n (all t o) in
-          let r = h .enough refl in
-          record {
-            start = front-long _ xs (c .start) (omega arith);
-            end = front-long _ xs (c .end) (omega arith);
-            left = front-long _ xs (c .left) (omega arith);
-            right = front-long _ xs (c .right) (omega arith);
-            presence = front-long _ xs (c .presence) (omega arith);
-          }
+  going-long = rw (g .laid) (lay-long (t .width) v c write (take n (all t o)) (λ e. omega (arith, length-take n (all t o), g .roomy .enough e)))
 
   module _ {r : Step} {y : Found} {j : Cursor} (e : Stepped t o k r) (q : r ≡ Next y j) where
     s : Took t o k y j

@@ -12,7 +12,7 @@ use lib.IntN.{ℤ}
 use lib.ListN.{length, getD}
 use Rattle.rules.specs.Piece.{AllWellFormed}
 use Rattle.rules.specs.Lists.{Width, Lent, cut, total, tracks}
-use Rattle.rules.specs.Answer.{judge}
+use Rattle.rules.specs.Answer.{judge, leaves}
 use Rattle.rules.specs.TwoWay.{Pairing}
 use Rattle.rules.specs.Outcomes.{Paired, paired-room, pairing}
 use Rattle.rules.specs.declared.Answer.{Answer}
@@ -24,36 +24,45 @@ use Rattle.rules.proofs.At.{le-or-lt}
 use Rattle.rules.proofs.Refusals.{sound-limits, sound-lists}
 use Rattle.two_way.specs.Sides.{onward, Two, two, start-at, end-at, stop, all}
 use Rattle.two_way.specs.Steps.{above, high}
-use Rattle.two_way.specs.Columns.{leaves, Formed, Room, Passed, Joined}
-use Rattle.two_way.proofs.Columns.{count-upto}
+use Rattle.two_way.specs.Columns.{Formed, Room, Passed, Joined}
+use Rattle.two_way.proofs.Columns.{Long, lay-long, count-upto}
+
+-- before a pass nothing is written yet, and there is room for all pieces, where it writes them: the columns at first, and now
+pub record Turn {P : Type 0} (t : Two P) (o : Pairing) (c d : Paired P) (write : Bool) : Type 0 where
+  pub kept : d ≡ c
+  pub room : Room t o write c
+
+module _ {P : Type 0} {t : Two P} {o : Pairing} {c d : Paired P} {write : Bool} (i : Turn t o c d write) where
+  pub turn-room : Room t o write d
+  turn-room = rw (i .kept) (i .room)
 
 module _ {P : Type 0} {t : Two P} {o : Pairing} {v : List ℤ} {c : Paired P} where
-  -- all pieces are written
-  finished : {d : Paired P} {n : ℕ} → length (all t o) ≤ paired-room (t .width) c → Passed t o v true c d n → Joined t o v c d (Done n)
-  finished h p = record { is = rw (le-leb (length (all t o)) (paired-room (t .width) c) h, p .count, p .laid) }
+  module _ {d d' : Paired P} {write : Bool} {n : ℕ} (i : Turn t o c d write) (p : Passed t o v write d d' n) where
+    pub turn-long : Long c d'
+    turn-long =
+        let q : Passed t o v write c d' n = rw (i .kept) at p in
+        rw (q .laid) (lay-long (t .width) v c write (all t o) (i .room .enough))
 
-  module _ {d : Paired P} {sure : Bool} {n : ℕ} (p : Passed t o v sure c d n) where
-    -- the first pass wrote, as there was sure to be room
-    pub joined-sure : Room t o sure c → sure ≡ true → Joined t o v c d (Done n)
-    joined-sure roomy e = finished (roomy .enough e) (rw e at p)
+    -- the pass wrote
+    pub joined-all : write ≡ true → Joined t o v c d' (Done n)
+    joined-all e =
+        let q : Passed t o v true c d' n = rw (e, i .kept) at p in
+        record { is = rw (le-leb (length (all t o)) (paired-room (t .width) c) (i .room .enough e), q .count, q .laid) }
 
-    -- the first pass counted
-    module _ (e : sure ≡ false) {room : ℕ} (q : room ≡ paired-room (t .width) c) where
-      kept : d ≡ c
-      kept = rw e at (p .laid)
+    -- the pass counted
+    module _ (e : write ≡ false) {room : ℕ} (q : room ≡ paired-room (t .width) c) where
+      left : d' ≡ c
+      left = (rw e at (p .laid)) ∙ i .kept
 
-      pub joined-not : room < n → Joined t o v c d (NoRoom n)
-      joined-not h = let k = p .count in record { is = rw (lt-leb (length (all t o)) (paired-room (t .width) c) (omega arith), k, kept) }
+      pub joined-not : room < n → Joined t o v c d' (NoRoom n)
+      joined-not h = let k = p .count in record { is = rw (lt-leb (length (all t o)) (paired-room (t .width) c) (omega arith), k, left) }
 
-      pub room-counted : n ≤ room → Room t o true d
-      room-counted h = let k = p .count in record { enough = λ z. rw kept (omega arith) }
-
-      pub joined-again : n ≤ room → {d' : Paired P} {n' : ℕ} → Passed t o v true d d' n' → Joined t o v c d' (Done n')
-      joined-again h p' = let k = p .count in finished (omega arith) (rw kept at p')
+      pub turn-again : n ≤ room → Turn t o c d' true
+      turn-again h = let k = p .count in record { kept = left; room = record { enough = λ z. omega arith } }
 
 -- there is room for as many pieces as there can be
-pub room-sure : {P : Type 0} {t : Two P} {v : List ℤ} → Formed t v → {most : ℕ} → most ≡ 2 * stop t - 1 → {o : Pairing} {c : Paired P} {room : ℕ} → room ≡ paired-room (t .width) c → Room t o (leb most room) c
-room-sure f {most} e {o} {c} {room} q = record { enough = λ h. le-trans (count-upto f o) (omega (arith, leb-true most room h)) }
+pub turn-first : {P : Type 0} {t : Two P} {v : List ℤ} → Formed t v → {most : ℕ} → most ≡ 2 * stop t - 1 → {o : Pairing} {c : Paired P} {room : ℕ} → room ≡ paired-room (t .width) c → Turn t o c c (leb most room)
+turn-first f {most} e {o} {c} {room} q = record { kept = refl; room = record { enough = λ h. le-trans (count-upto f o) (omega (arith, leb-true most room h)) } }
 
 above-lt : (f : ℕ → ℕ) (n i : ℕ) → i < n → f i < above f n
 above-lt f zero i h = absurd (omega arith)

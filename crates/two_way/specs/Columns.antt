@@ -6,8 +6,8 @@ use mathlib.Core.List.{List}
 use lib.IntN.{ℤ, pos}
 use lib.ListN.{length, getD, set}
 use Rattle.rules.specs.Piece.{Piece, Within}
-use Rattle.rules.specs.Lists.{Width, Lent}
-use Rattle.rules.specs.Answer.{Outcome, settle}
+use Rattle.rules.specs.Lists.{Width}
+use Rattle.rules.specs.Answer.{Outcome, settle, leaves}
 use Rattle.rules.specs.TwoWay.{Pairing, Match, side-value, presence}
 use Rattle.rules.specs.Outcomes.{Paired, paired-room, lay-paired}
 use Rattle.rules.specs.declared.Answer.{Answer}
@@ -16,15 +16,9 @@ use Rattle.two_way.specs.Sides.{no-left, no-right, piece-of, onward, Two
 use Rattle.two_way.specs.Steps.{high}
 use Rattle.two_way.specs.declared.Piece.{Piece as Found}
 
--- what is lent, the five columns, and what a call leaves
-abbrev pub lent : {P : Type 0} → List P → List P → List ℤ → List ℕ → Lent P
-lent s e v n = record { starts = s; ends = e; values = v; counts = n }
-
+-- the five columns
 abbrev pub columns : {P : Type 0} → List P → List P → List ℤ → List ℤ → List ℕ → Paired P
 columns s e l r p = record { start = s; end = e; left = l; right = r; presence = p }
-
-abbrev pub leaves : {C : Type 0} → Answer → C → Outcome C
-leaves a c = record { answer = a; columns = c }
 
 -- the value at a place
 abbrev pub value : List ℤ → ℕ → ℤ

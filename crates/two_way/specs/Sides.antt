@@ -7,10 +7,17 @@ use lib.Dec.{ltb, eqb}
 use lib.ListN.{length}
 use Rattle.rules.specs.Piece.{Piece}
 use Rattle.rules.specs.Lists.{Width, ranges, keys}
-use Rattle.rules.specs.TwoWay.{Pairing, Match, paired}
+use Rattle.rules.specs.TwoWay.{Pairing, inner, left, full, Match, paired}
+use Rattle.two_way.specs.declared.Join.{Join}
+use Rattle.two_way.specs.declared.Join.the-variants.{Inner, Left, Full}
 use Rattle.two_way.specs.declared.Side.{Side}
 use Rattle.two_way.specs.declared.Cursor.{Cursor}
 use Rattle.two_way.specs.declared.Piece.{Piece as Found}
+
+abbrev pub pairing-of : Join → Pairing
+pairing-of Inner = inner
+pairing-of Left = left
+pairing-of Full = full
 
 -- the place of a side, unless it is missing
 abbrev pub unless : Bool → ℕ → Option ℕ

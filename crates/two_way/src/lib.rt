@@ -1,6 +1,3 @@
-pub mod instant;
-pub mod seat;
-
 ghost use mathlib.Core.Path.{_≡_};
 ghost use mathlib.Core.Bool.{false};
 ghost use Prim.Native.Nat.{_*_, _-_, _≤_, _<_, min, max};
@@ -40,6 +37,13 @@ pub struct Piece {
 pub enum Step {
     Piece(Piece, Cursor),
     Done,
+}
+
+// Which runs a join keeps: those that both lists cover, that the left covers, or that either does.
+pub enum Join {
+    Inner,
+    Left,
+    Full,
 }
 
 // The earlier of two points.

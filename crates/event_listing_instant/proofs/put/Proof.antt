@@ -1,0 +1,23 @@
+-- `put` meets its contract. Assumes nothing.
+use borrow.Author.Needs.{needs}
+use mir.Syntax.{w32}
+use Rattle.integer.proofs.Laws.{back}
+use Rattle.event_listing.proofs.Rows.{row-put}
+use Rattle.event_listing_instant.proofs.put.Statement.{statement}
+use Rattle.event_listing_instant.proofs.put.Tie as tie
+
+pub put-spec : {M : Type 1} → statement M
+put-spec =
+    tie.close
+    (tie.spec
+    (λ c κs. search needs)
+    (λ c. search needs)
+    (λ c κs. search needs)
+    (λ c. search needs)
+    (λ c. search needs)
+    (λ c. search needs)
+    (λ c. search needs)
+    (λ c. search needs)
+    (λ c. search needs)
+    (λ c. search needs)
+    (λ c. let r : tie.After-row-of = search in let p : tie.After-put-key = search in row-put (r .row-of .ensures) (p .put-key .ensures) (let s : tie.After-struct-told = search in back w32 _ (s .struct-told .given .1 .1 .1 .0 .1))))

@@ -1,0 +1,144 @@
+use event_listing::row_of;
+use event_listing::shortest;
+use form::instant::judge;
+use integer::instant::Point;
+use integer::instant::put_key;
+use multiway_sweep::Event;
+use multiway_sweep::Sizes;
+use multiway_sweep::Step;
+use multiway_sweep_instant::fill;
+use multiway_sweep_instant::step;
+use rules::Answer;
+use rules::Judgement;
+use rules::Kind;
+ghost use mathlib.Core.Path.{_≡_};
+ghost use Rattle.rules.specs.Lists.{instants, lent};
+ghost use Rattle.rules.specs.Outcomes.{listing};
+ghost use Rattle.rules.specs.Answer.{leaves};
+ghost use Rattle.multiway_sweep.specs.Steps.{event};
+ghost use Rattle.event_listing.specs.Listing.{columns, Writable, Put, Listable, Wrote};
+
+// Writes an event at a place of the columns.
+fn put(
+    found: Event,
+    place: usize,
+    out_kind: &mut [u8],
+    out_point: &mut [Point],
+    out_list: &mut [u8],
+    out_value: &mut [i32],
+)
+    requires { ⌜ Writable instants place (event found) (columns (now «out_kind») (now «out_point») (now «out_list») (now «out_value»)) ⌝ }
+    ensures { λ _.
+        let c = columns (now («out_kind» .entry)) (now («out_point» .entry)) (now («out_list» .entry)) (now («out_value» .entry)) in
+        let d = columns (now («out_kind» .exit)) (now («out_point» .exit)) (now («out_list» .exit)) (now («out_value» .exit)) in
+        ⌜ Put instants place (event found) c d ⌝ }
+{
+    let row = row_of(found);
+    let value = row.value;
+    out_kind[place] = row.kind;
+    put_key(out_point, place, row.key);
+    out_list[place] = row.list;
+    out_value[place] = value;
+}
+
+// Writes all events at the front of the columns, which have room for them.
+fn write_events(
+    starts: &[Point],
+    ends: &[Point],
+    values: &[i32],
+    counts: &[u32],
+    out_kind: &mut [u8],
+    out_point: &mut [Point],
+    out_list: &mut [u8],
+    out_value: &mut [i32],
+)
+    requires { ⌜ Listable instants (lent (now starts) (now ends) (now values) (now counts)) (columns (now «out_kind») (now «out_point») (now «out_list») (now «out_value»)) ⌝ }
+    ensures { λ _.
+        let l = lent (now (starts .entry)) (now (ends .entry)) (now (values .entry)) (now (counts .entry)) in
+        let c = columns (now («out_kind» .entry)) (now («out_point» .entry)) (now («out_list» .entry)) (now («out_value» .entry)) in
+        let d = columns (now («out_kind» .exit)) (now («out_point» .exit)) (now («out_list» .exit)) (now («out_value» .exit)) in
+        ⌜ Wrote instants l c d ⌝ }
+{
+    let mut stops: [usize; 16] = [0; 16];
+    let mut next: [usize; 16] = [0; 16];
+    let mut start_keys: [u64; 16] = [0; 16];
+    let mut start_lists: [u8; 16] = [0; 16];
+    let mut end_keys: [u64; 16] = [0; 16];
+    let mut end_lists: [u8; 16] = [0; 16];
+    let mut sizes = Sizes {
+        starts: fill(
+            starts,
+            counts,
+            &mut stops,
+            &mut next,
+            &mut start_keys,
+            &mut start_lists,
+        ),
+        active_ends: 0,
+    };
+    let mut place: usize = 0;
+    loop {
+        let taken = step(
+            starts,
+            ends,
+            values,
+            &stops,
+            &mut next,
+            &mut start_keys,
+            &mut start_lists,
+            &mut end_keys,
+            &mut end_lists,
+            sizes,
+        );
+        let Step::Next(found, after) = taken else {
+            return;
+        };
+        put(found, place, out_kind, out_point, out_list, out_value);
+        sizes = after;
+        place += 1;
+    }
+}
+
+// The events of the lists: kind (0 a start, 1 an end), point, list, and value (0 for an end).
+pub fn list_events(
+    starts: &[Point],
+    ends: &[Point],
+    values: &[i32],
+    counts: &[u32],
+    out_kind: &mut [u8],
+    out_point: &mut [Point],
+    out_list: &mut [u8],
+    out_value: &mut [i32],
+) -> Answer
+    ensures { λ r.
+        let l = lent (now (starts .entry)) (now (ends .entry)) (now (values .entry)) (now (counts .entry)) in
+        let c = columns (now («out_kind» .entry)) (now («out_point» .entry)) (now («out_list» .entry)) (now («out_value» .entry)) in
+        let d = columns (now («out_kind» .exit)) (now («out_point» .exit)) (now («out_list» .exit)) (now («out_value» .exit)) in
+        ⌜ leaves r d ≡ listing instants l c ⌝ }
+{
+    let found = judge(Kind::Listing, starts, ends, values, counts);
+    if let Judgement::Refused(answer) = found {
+        return answer;
+    }
+    let needed = 2 * starts.len();
+    let room = shortest(
+        out_kind.len(),
+        out_point.len(),
+        out_list.len(),
+        out_value.len(),
+    );
+    if room < needed {
+        return Answer::NoRoom(needed);
+    }
+    write_events(
+        starts,
+        ends,
+        values,
+        counts,
+        out_kind,
+        out_point,
+        out_list,
+        out_value,
+    );
+    Answer::Done(needed)
+}

@@ -1,0 +1,125 @@
+-- The first stretch from a point on: the lists have nothing before it, and on it what is active. Assumes nothing.
+use Prim.Native.Nat.{ℕ, _+_, _*_, _≤_, _<_}
+use mathlib.Core.Path.{_≡_, refl, sym, ap, _∙_, subst}
+use mathlib.Core.Logic.{inl, inr}
+use mathlib.Core.Option.{none}
+use mathlib.Core.List.{List, [], _∷_}
+use native.Mathlib.Omega.{arith}
+use lib.IntN.{ℤ}
+use lib.ListN.{length, getD, List·getD-map}
+use Rattle.rules.specs.Piece.{Piece, Range, column, Within, AllWellFormed}
+use Rattle.rules.specs.Lists.{Width}
+use Rattle.rules.specs.ManyWay.{present}
+use Rattle.rules.specs.Sweep as rules
+use Rattle.rules.specs.Proving.Below.{nones}
+use Rattle.rules.proofs.At.{within-le}
+use Rattle.rules.proofs.Sweep.{kind-small, all-in}
+use Rattle.multiway_sweep.specs.Front.{Front}
+use Rattle.multiway_sweep.specs.Steps.{Columns, Arrays, event}
+use Rattle.multiway_sweep.specs.declared.Event.{Event}
+use Rattle.multiway_sweep.specs.declared.Event.the-variants.{Start, End}
+use Rattle.multiway_sweep.specs.declared.Step.{Step}
+use Rattle.multiway_sweep.specs.declared.Step.the-variants.{Next, Done}
+use Rattle.multiway_sweep.proofs.Front.{front-column, front-last, front-ends, front-own, wf-at}
+use Rattle.join_sweep.specs.Active.{Slots, active}
+use Rattle.join_sweep.specs.Stretches.{after, Busy, NoStart, StartsAt, Begun, BegunAfter, Ahead, Reached, Holds, Joining, Opened, Stretches}
+use Rattle.join_sweep.specs.declared.Begin.{Begin}
+use Rattle.join_sweep.specs.declared.Begin.the-variants.{At as BeginAt, Nowhere}
+use Rattle.join_sweep.specs.declared.JoinSweep.{JoinSweep}
+use Rattle.join_sweep.specs.declared.LastEnd.{LastEnd}
+use Rattle.join_sweep.proofs.Active.{active-length, count-none, nones-count}
+use Rattle.join_sweep.proofs.Turns.{moved}
+
+module _ {A : Type 0} where
+  own-point : (k b n : ℕ) (l : List (Piece A)) → Within b n l → rules.All (λ e. rules.point e < n) (rules.own k l)
+  own-point k b n [] w = tt
+  own-point k b n (x ∷ xs) w = let h = within-le (x .end + 1) n xs (w .2) in (omega arith, (omega arith, own-point k (x .end + 1) n xs (w .2)))
+
+  -- every event is at a point of the line
+  front-point : (n : ℕ) (ls : List (List (Piece A))) → AllWellFormed n ls → {t : ℕ} {left : List (rules.Event A)} {act : List (mathlib.Core.Option.Option A)} {e : rules.Event A} → Front ls t (e ∷ left) act → rules.point e < n
+  front-point n ls wf {e = e} f = all-in (λ x. rules.point x < n) e (rules.own (rules.list e) (getD ls (rules.list e) [])) (own-point (rules.list e) 0 n (getD ls (rules.list e) []) (wf-at n (rules.list e) ls wf)) (front-own n ls wf f)
+
+-- nothing that ended before k is active
+module _ {P : Type 0} {w : Width P} {c : Columns P} {ls : List (List Range)} {a : Arrays} {s : Slots} {j : JoinSweep} (k : ℕ) (g : Joining w c ls a s j (2 * k)) where
+  idle : j .«active_count» ≡ 0 → active (length ls) s ≡ nones ls
+  idle q = count-none (active (length ls) s) ls (active-length (length ls) s) (omega (arith, g .counted .count))
+
+  idle-end : j .«active_count» ≡ 0 → {at list : ℕ} {rest : List (rules.Event ℤ)} → Front ls (2 * k) (rules.ends at list ∷ rest) (active (length ls) s) → ⊥
+  idle-end q {list = list} f =
+      let i = idle q in
+      let e = front-ends (w .points) ls (g .formed) f in
+      let m : getD (nones ls) list none ≡ none = List·getD-map (λ l. none) ls list [] in
+      let z : _≡_ {A = ℕ} 0 1 = cc in
+      omega arith
+
+  nowhere : (j .«active_count» ≡ 0) × NoStart (j .held) → (p : ℕ) → k ≤ p → column ls p ≡ nones ls
+  nowhere q p h = go (j .held) (q .1) (g .holds)
+    where
+      go : (r : Step) → NoStart r → Holds w c a r (g .left) → column ls p ≡ nones ls
+      go Done n e = front-column (w .points) ls (g .formed) (rw e at (g .front)) p (omega arith) tt ∙ idle (q .0)
+      go (Next (Start x list v) z) n e = absurd n
+      go (Next (End at list) z) n e = absurd (idle-end (q .0) (rw (e .1) at (g .front)))
+
+  -- a stretch begins at a point
+  pub record Begins (start : ℕ) : Type 0 where
+    pub joining : Joining w c ls a s j (2 * start)
+    pub busy : Busy start j
+    pub later : k ≤ start
+    pub gap : (p : ℕ) → k ≤ p → p < start → column ls p ≡ nones ls
+
+  begins : (start : ℕ) → Begun j k (BeginAt start) → Begins start
+  begins start (inl q) = record { joining = subst (λ i. Joining w c ls a s j (2 * i)) (sym (q .1)) g; busy = inl (q .0); later = omega arith; gap = λ p h l. absurd (omega arith) }
+  begins start (inr q) = go (j .held) refl (q .1) (g .holds)
+    where
+      go : (r : Step) → j .held ≡ r → StartsAt start r → Holds w c a r (g .left) → Begins start
+      go Done h n e = absurd n
+      go (Next (End at list) z) h n e = absurd n
+      go (Next (Start x list v) z) h n e =
+          let f = rw (e .1) at (g .front) in
+          let l : k ≤ start = omega (arith, f .high .0) in
+          record {
+            joining = moved g (2 * start) (omega arith) (rw h (omega arith));
+            busy = inr (q .1);
+            later = l;
+            gap = λ p m i. front-column (w .points) ls (g .formed) f p (omega arith) (omega arith) ∙ idle (q .0);
+          }
+
+-- where the stretch after the last one begins, and that there is none
+module _ {P : Type 0} {w : Width P} {c : Columns P} {ls : List (List Range)} {a : Arrays} {s : Slots} {j : JoinSweep} (last : LastEnd) (greatest : ℕ) (g : Joining w c ls a s j (2 * after last)) where
+  pub begins-at : {r : Begin} → BegunAfter j last greatest r → {start : ℕ} → r ≡ BeginAt start → Begins (after last) g start
+  begins-at (inl q) e = let z : _≡_ {A = ℕ} 0 1 = cc in absurd (omega arith)
+  begins-at (inr b) e = begins (after last) g _ (rw e at b)
+
+  pub over : {r : Begin} → BegunAfter j last greatest r → r ≡ Nowhere → greatest + 1 ≡ w .points → (p : ℕ) → after last ≤ p → p < w .points → column ls p ≡ nones ls
+  over (inl q) e n p h l = absurd (omega arith)
+  over (inr b) e n p h l = nowhere (after last) g (rw e at b) p h
+
+module _ {P : Type 0} {w : Width P} {c : Columns P} {ls : List (List Range)} {a : Arrays} {s : Slots} {j : JoinSweep} {start : ℕ} (o : Opened w c ls a s j start) where
+  -- what is active has not ended
+  pub ahead : Ahead start (j .held)
+  ahead = go (j .held) (o .joining .holds)
+    where
+      go : (r : Step) → Holds w c a r (o .joining .left) → Ahead start r
+      go Done e =
+          let q = front-last (w .points) ls (o .joining .formed) (rw e at (o .joining .front)) in
+          absurd (omega (arith, o .busy, o .joining .counted .count, ap (λ l. length (present l)) q, nones-count ls))
+      go (Next x z) e = omega (arith, rw (e .1) at (o .taken), kind-small (event x))
+
+  -- up to the held event
+  module _ {k end : ℕ} (later : k ≤ start) (gap : (p : ℕ) → k ≤ p → p < start → column ls p ≡ nones ls) where
+    pub stretch : Reached (j .held) end → Stretches w c ls a s j k (record { start = start; end = end })
+    stretch r = go (j .held) refl (o .joining .holds) ahead r
+      where
+        go : (h : Step) → j .held ≡ h → Holds w c a h (o .joining .left) → Ahead start h → Reached h end → Stretches w c ls a s j k (record { start = start; end = end })
+        go Done q e l r = absurd l
+        go (Next x z) q e l r =
+            let f = rw (e .1) at (o .joining .front) in
+            let m = kind-small (event x) in
+            record {
+              later = later;
+              order = omega arith;
+              below = omega (arith, front-point (w .points) ls (o .joining .formed) f);
+              gap = gap;
+              on = λ p i u. front-column (w .points) ls (o .joining .formed) f p (omega arith) (omega arith);
+              joining = moved (o .joining) (2 * end + 1) (omega arith) (rw q (omega arith));
+            }

@@ -1,0 +1,74 @@
+use multiway_sweep::Event;
+use multiway_sweep::Range;
+use multiway_sweep::Step;
+ghost use Prim.Native.Nat.{_+_, _≤_};
+ghost use Rattle.join_sweep.specs.Stretches.{after, Begun, BegunAfter, Ahead, Reached};
+
+// A join's sweep, but for its arrays: the held event, with the sizes of the heaps after it, and how many lists are active.
+pub struct JoinSweep {
+    pub held: Step,
+    pub active_count: usize,
+}
+
+// The end of the last stretch.
+pub enum LastEnd {
+    Nothing,
+    At(u64),
+}
+
+// The next stretch and the sweep at its end, or nothing is left.
+pub enum Stretch {
+    Next(Range, JoinSweep),
+    Done,
+}
+
+// Where a stretch begins.
+pub enum Begin {
+    At(u64),
+    Nowhere,
+}
+
+// With nothing active, a stretch begins at the next range's start; else where the last one ended.
+fn begin_from(sweep: JoinSweep, from: u64) -> Begin
+    ensures { λ r. ⌜ Begun sweep from r ⌝ }
+{
+    if 0 < sweep.active_count {
+        return Begin::At(from);
+    }
+    let held = sweep.held;
+    let Step::Next(event, _) = held else {
+        return Begin::Nowhere;
+    };
+    let Event::Start(range, _, _) = event else {
+        return Begin::Nowhere;
+    };
+    Begin::At(range.start)
+}
+
+// Where the stretch after the last one begins. Every range ends at or before the greatest point, so nothing can follow it.
+pub fn begin_after(sweep: JoinSweep, last_end: LastEnd, greatest: u64) -> Begin
+    requires { ⌜ after «last_end» ≤ greatest + 1 ⌝ }
+    ensures { λ r. ⌜ BegunAfter sweep «last_end» greatest r ⌝ }
+{
+    let LastEnd::At(end) = last_end else {
+        return begin_from(sweep, 0);
+    };
+    if end < greatest {
+        return begin_from(sweep, end + 1);
+    }
+    Begin::Nowhere
+}
+
+// A stretch runs to the next event: an end, or just before a start.
+pub fn reach(start: u64, held: Step) -> u64
+    requires { ⌜ Ahead start held ⌝ }
+    ensures { λ r. ⌜ Reached held r ⌝ }
+{
+    let Step::Next(event, _) = held else {
+        return start;
+    };
+    match event {
+        Event::End(at, _) => at,
+        Event::Start(range, _, _) => range.start - 1,
+    }
+}
