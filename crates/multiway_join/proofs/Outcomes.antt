@@ -22,6 +22,7 @@ use Rattle.rules.specs.declared.Judgement.{Judgement}
 use Rattle.rules.specs.declared.Judgement.the-variants.{Sound, Refused}
 use Rattle.rules.specs.declared.Kind.the-variants.{Join as JoinBy}
 use Rattle.rules.proofs.Columns.{length-ranges}
+use Rattle.rules.proofs.Passes.{Turn, settled-done, settled-not, turn-again}
 use Rattle.rules.proofs.Refusals.{sound-limits, sound-lists}
 use Rattle.rules.proofs.Room.{runs-room, rule-nones, merged-enough, inner-of-none, full-of-none}
 use Rattle.rules.proofs.Same.{decides-ℤ}
@@ -29,12 +30,12 @@ use Rattle.multiway_sweep.specs.Steps.{Arrays, columns, arrays}
 use Rattle.multiway_sweep.specs.declared.Step.{Step}
 use Rattle.join_sweep.specs.Stretches.{Ready}
 use Rattle.join_sweep.specs.Begins.{Formed, Blank}
-use Rattle.multiway_join.specs.Pieces.{Put, operation}
+use Rattle.multiway_join.specs.Pieces.{Put, operation, lay}
 use Rattle.multiway_join.specs.Passes.{Joinable, Begins, Passed, Joined}
 use Rattle.multiway_join.specs.declared.Join.{Join}
 use Rattle.multiway_join.specs.declared.Join.the-variants.{Inner, Full}
 use Rattle.multiway_join.specs.declared.Pending.the-variants.{Held}
-use Rattle.multiway_join.proofs.Columns.{lay-put}
+use Rattle.multiway_join.proofs.Columns.{Long, lay-long, lay-put}
 
 module _ {A : Type 0} (s e : ℕ → ℕ) (v : ℕ → A) where
   size-cut : (i : ℕ) (ns : List ℕ) → size (cut s e v i ns) ≡ total ns
@@ -57,6 +58,10 @@ nothing-there : (join : Join) (combiner : ℕ) (ls : List (List Range)) → 0 < 
 nothing-there join combiner [] h = absurd (omega arith)
 nothing-there join combiner (l ∷ ls) h = rule-nones (operation join combiner) l ls
 
+-- before a pass of a join nothing is written yet: the columns at first, and now
+abbrev pub Turns : {P : Type 0} → Width P → Operation → List (List Range) → Merged P → Merged P → Bool → Type 0
+Turns w o ls c d write = Turn (length (merged o (w .points) ls)) (merged-room w c) c d write
+
 module _ {P : Type 0} {w : Width P} {l : Lent P} (f : Formed w l) (some-list : 0 < length (l .counts)) (join : Join) (combiner : ℕ) where
   abbrev pieces : List Range
   pieces = merged (operation join combiner) (w .points) (lists w l)
@@ -65,7 +70,7 @@ module _ {P : Type 0} {w : Width P} {l : Lent P} (f : Formed w l) (some-list : 0
   nothing = nothing-there join combiner (lists w l) (omega (arith, lists-length w l))
 
   -- there is room for all pieces, where they are written
-  pub joinable : {write : Bool} {c : Merged P} → (write ≡ true → length pieces ≤ merged-room w c) → Joinable w (operation join combiner) (lists w l) write c
+  joinable : {write : Bool} {c : Merged P} → (write ≡ true → length pieces ≤ merged-room w c) → Joinable w (operation join combiner) (lists w l) write c
   joinable h =
       record {
         formed = f .formed;
@@ -81,31 +86,30 @@ module _ {P : Type 0} {w : Width P} {l : Lent P} (f : Formed w l) (some-list : 0
   most-enough = omega (arith, runs-room eqℤ (rule-of (operation join combiner)) (w .points) (lists w l) decides-ℤ (f .formed) nothing, lists-size w l, f .adds-up)
 
   -- where there is sure to be room the first pass writes
-  pub room-sure : (c : Merged P) {most room : ℕ} → most ≡ max 1 (2 * length (l .starts) - 1) → room ≡ merged-room w c → leb most room ≡ true → length pieces ≤ merged-room w c
-  room-sure c {most} {room} e q h = omega (arith, most-enough, leb-true most room h)
+  pub turns-first : (c : Merged P) {most room : ℕ} → most ≡ max 1 (2 * length (l .starts) - 1) → room ≡ merged-room w c → Turns w (operation join combiner) (lists w l) c c (leb most room)
+  turns-first c {most} {room} e q = record { kept = refl; enough = λ h. omega (arith, most-enough, leb-true most room h) }
 
-  module _ {c : Merged P} where
-    -- all pieces are written
-    finished : {d : Merged P} {n : ℕ} → length pieces ≤ merged-room w c → Passed w (operation join combiner) (lists w l) true c d n → Joined w (operation join combiner) (lists w l) c d (Done n)
-    finished h p = record { is = rw (le-leb (length pieces) (merged-room w c) h, p .count, p .laid) }
+  pub turns-joinable : {c d : Merged P} {write : Bool} → Turns w (operation join combiner) (lists w l) c d write → Joinable w (operation join combiner) (lists w l) write d
+  turns-joinable i = rw (i .kept) (joinable (i .enough))
 
-    module _ {d : Merged P} {sure : Bool} {n : ℕ} (p : Passed w (operation join combiner) (lists w l) sure c d n) where
-      pub joined-sure : length pieces ≤ merged-room w c → sure ≡ true → Joined w (operation join combiner) (lists w l) c d (Done n)
-      joined-sure h e = finished h (rw e at p)
+module _ {P : Type 0} {w : Width P} {o : Operation} {ls : List (List Range)} {c d d' : Merged P} {write : Bool} {n : ℕ} (i : Turns w o ls c d write) (p : Passed w o ls write d d' n) where
+  abbrev lays : Bool → Merged P → Merged P
+  lays b = lay w b (merged o (w .points) ls)
 
-      -- else it counts
-      module _ (e : sure ≡ false) {room : ℕ} (q : room ≡ merged-room w c) where
-        kept : d ≡ c
-        kept = rw e at (p .laid)
+  pub turns-long : Long c d'
+  turns-long =
+      let q : d' ≡ lays write c = p .laid ∙ ap (lays write) (i .kept) in
+      rw q (lay-long w c write (merged o (w .points) ls) (i .enough))
 
-        pub joined-not : room < n → Joined w (operation join combiner) (lists w l) c d (NoRoom n)
-        joined-not h = let k = p .count in record { is = rw (lt-leb (length pieces) (merged-room w c) (omega arith), k, kept) }
+  pub turns-done : write ≡ true → Joined w o ls c d' (Done n)
+  turns-done e = record { is = settled-done lays (λ c. refl) i (p .count) (p .laid) e }
 
-        pub room-counted : n ≤ room → length pieces ≤ merged-room w d
-        room-counted h = let k = p .count in rw kept (omega arith)
+  module _ (e : write ≡ false) {room : ℕ} (q : room ≡ merged-room w c) where
+    pub turns-not : room < n → Joined w o ls c d' (NoRoom n)
+    turns-not h = record { is = settled-not lays (λ c. refl) i (p .count) (p .laid) e (omega arith) }
 
-        pub joined-again : n ≤ room → {d' : Merged P} {n' : ℕ} → Passed w (operation join combiner) (lists w l) true d d' n' → Joined w (operation join combiner) (lists w l) c d' (Done n')
-        joined-again h p' = let k = p .count in finished (omega arith) (rw kept at p')
+    pub turns-again : n ≤ room → Turns w o ls c d' true
+    turns-again h = turn-again lays (λ c. refl) i (p .count) (p .laid) e (omega arith)
 
 -- over zero lists
 module _ {P : Type 0} {w : Width P} {c : Merged P} {join : Join} (combiner : ℕ) (k : known combiner ≡ true) where

@@ -29,7 +29,7 @@ ghost use lib.ListN.{length};
 ghost use Rattle.rules.specs.Piece as rules;
 ghost use Rattle.rules.specs.Lists.{instants, lists, lent};
 ghost use Rattle.rules.specs.Answer.{known, leaves};
-ghost use Rattle.rules.specs.Outcomes.{inner, full, merging};
+ghost use Rattle.rules.specs.Outcomes.{inner, full, merged-room, merging};
 ghost use Rattle.multiway_sweep.specs.Steps.{columns, arrays};
 ghost use Rattle.join_sweep.specs.Begins.{Formed};
 ghost use Rattle.multiway_join.specs.Pieces.{output, Puttable, Put, operation};
@@ -188,6 +188,13 @@ fn pass(
     )
 }
 
+// How many pieces the columns have room for.
+fn room_of(out_start: &[Point], out_end: &[Point], out_value: &[i64]) -> usize
+    ensures { λ r. ⌜ r ≡ merged-room instants (output (now («out_start» .entry)) (now («out_end» .entry)) (now («out_value» .entry))) ⌝ }
+{
+    shortest(out_start.len(), out_end.len(), out_value.len())
+}
+
 // Writes all pieces where there is room for them. Where the room may not do, a counting pass tells how many there are.
 fn write_all(
     join: Join,
@@ -207,39 +214,29 @@ fn write_all(
         let d = output (now («out_start» .exit)) (now («out_end» .exit)) (now («out_value» .exit)) in
         ⌜ Joined instants (operation join combiner) (lists instants l) c d r ⌝ }
 {
-    let room = shortest(out_start.len(), out_end.len(), out_value.len());
-    let sure = most(starts.len()) <= room;
-    let needed = pass(
-        join,
-        combiner,
-        starts,
-        ends,
-        values,
-        counts,
-        sure,
-        out_start,
-        out_end,
-        out_value,
-    );
-    if sure {
-        return Answer::Done(needed);
+    let room = room_of(out_start, out_end, out_value);
+    let mut sure = most(starts.len()) <= room;
+    loop {
+        let count = pass(
+            join,
+            combiner,
+            starts,
+            ends,
+            values,
+            counts,
+            sure,
+            out_start,
+            out_end,
+            out_value,
+        );
+        if sure {
+            return Answer::Done(count);
+        }
+        if room < count {
+            return Answer::NoRoom(count);
+        }
+        sure = true;
     }
-    if room < needed {
-        return Answer::NoRoom(needed);
-    }
-    let written = pass(
-        join,
-        combiner,
-        starts,
-        ends,
-        values,
-        counts,
-        true,
-        out_start,
-        out_end,
-        out_value,
-    );
-    Answer::Done(written)
 }
 
 // Zero lists: inner is the one range from the least to the greatest point, full is nothing.
@@ -257,7 +254,7 @@ fn of_none(
     let Join::Inner = join else {
         return Answer::Done(0);
     };
-    if shortest(out_start.len(), out_end.len(), out_value.len()) == 0 {
+    if room_of(out_start, out_end, out_value) == 0 {
         return Answer::NoRoom(1);
     }
     let whole = Piece {

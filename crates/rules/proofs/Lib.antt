@@ -14,4 +14,5 @@ pub mod Sweep
 pub mod Faults
 pub mod Refusals
 pub mod Room
+pub mod Passes
 pub mod Sheet

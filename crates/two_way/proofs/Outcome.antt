@@ -7,7 +7,7 @@ use mathlib.Core.List.{List, [], _∷_}
 use native.Mathlib.Omega.{arith}
 use native.Mathlib.Nat.{zero-add, sub-zero, le-trans}
 use lib.Dec.{leb}
-use borrow.Author.Tests.{le-leb, lt-leb, leb-true}
+use borrow.Author.Tests.{leb-true}
 use lib.IntN.{ℤ}
 use lib.ListN.{length, getD}
 use Rattle.rules.specs.Piece.{AllWellFormed}
@@ -21,48 +21,43 @@ use Rattle.rules.specs.declared.Judgement.{Judgement}
 use Rattle.rules.specs.declared.Judgement.the-variants.{Sound, Refused}
 use Rattle.rules.specs.declared.Kind.the-variants.{TwoWay}
 use Rattle.rules.proofs.At.{le-or-lt}
+use Rattle.rules.proofs.Passes.{Turn, settled-done, settled-not, turn-again}
 use Rattle.rules.proofs.Refusals.{sound-limits, sound-lists}
 use Rattle.two_way.specs.Sides.{onward, Two, two, start-at, end-at, stop, all}
 use Rattle.two_way.specs.Steps.{above, high}
-use Rattle.two_way.specs.Columns.{Formed, Room, Passed, Joined}
+use Rattle.two_way.specs.Columns.{lay, Formed, Room, Passed, Joined}
 use Rattle.two_way.proofs.Columns.{Long, lay-long, count-upto}
 
--- before a pass nothing is written yet, and there is room for all pieces, where it writes them: the columns at first, and now
-pub record Turn {P : Type 0} (t : Two P) (o : Pairing) (c d : Paired P) (write : Bool) : Type 0 where
-  pub kept : d ≡ c
-  pub room : Room t o write c
+-- before a pass of a join nothing is written yet: the columns at first, and now
+abbrev pub Turns : {P : Type 0} → Two P → Pairing → Paired P → Paired P → Bool → Type 0
+Turns t o c d write = Turn (length (all t o)) (paired-room (t .width) c) c d write
 
-module _ {P : Type 0} {t : Two P} {o : Pairing} {c d : Paired P} {write : Bool} (i : Turn t o c d write) where
-  pub turn-room : Room t o write d
-  turn-room = rw (i .kept) (i .room)
+module _ {P : Type 0} {t : Two P} {o : Pairing} {c d : Paired P} {write : Bool} (i : Turns t o c d write) where
+  pub turns-room : Room t o write d
+  turns-room = rw (i .kept) (record { enough = i .enough })
 
-module _ {P : Type 0} {t : Two P} {o : Pairing} {v : List ℤ} {c : Paired P} where
-  module _ {d d' : Paired P} {write : Bool} {n : ℕ} (i : Turn t o c d write) (p : Passed t o v write d d' n) where
-    pub turn-long : Long c d'
-    turn-long =
-        let q : Passed t o v write c d' n = rw (i .kept) at p in
-        rw (q .laid) (lay-long (t .width) v c write (all t o) (i .room .enough))
+  module _ {v : List ℤ} {d' : Paired P} {n : ℕ} (p : Passed t o v write d d' n) where
+    abbrev lays : Bool → Paired P → Paired P
+    lays b = lay (t .width) v b (all t o)
 
-    -- the pass wrote
-    pub joined-all : write ≡ true → Joined t o v c d' (Done n)
-    joined-all e =
-        let q : Passed t o v true c d' n = rw (e, i .kept) at p in
-        record { is = rw (le-leb (length (all t o)) (paired-room (t .width) c) (i .room .enough e), q .count, q .laid) }
+    pub turns-long : Long c d'
+    turns-long =
+        let q : d' ≡ lays write c = p .laid ∙ ap (lays write) (i .kept) in
+        rw q (lay-long (t .width) v c write (all t o) (i .enough))
 
-    -- the pass counted
+    pub turns-done : write ≡ true → Joined t o v c d' (Done n)
+    turns-done e = record { is = settled-done lays (λ c. refl) i (p .count) (p .laid) e }
+
     module _ (e : write ≡ false) {room : ℕ} (q : room ≡ paired-room (t .width) c) where
-      left : d' ≡ c
-      left = (rw e at (p .laid)) ∙ i .kept
+      pub turns-not : room < n → Joined t o v c d' (NoRoom n)
+      turns-not h = record { is = settled-not lays (λ c. refl) i (p .count) (p .laid) e (omega arith) }
 
-      pub joined-not : room < n → Joined t o v c d' (NoRoom n)
-      joined-not h = let k = p .count in record { is = rw (lt-leb (length (all t o)) (paired-room (t .width) c) (omega arith), k, left) }
-
-      pub turn-again : n ≤ room → Turn t o c d' true
-      turn-again h = let k = p .count in record { kept = left; room = record { enough = λ z. omega arith } }
+      pub turns-again : n ≤ room → Turns t o c d' true
+      turns-again h = turn-again lays (λ c. refl) i (p .count) (p .laid) e (omega arith)
 
 -- there is room for as many pieces as there can be
-pub turn-first : {P : Type 0} {t : Two P} {v : List ℤ} → Formed t v → {most : ℕ} → most ≡ 2 * stop t - 1 → {o : Pairing} {c : Paired P} {room : ℕ} → room ≡ paired-room (t .width) c → Turn t o c c (leb most room)
-turn-first f {most} e {o} {c} {room} q = record { kept = refl; room = record { enough = λ h. le-trans (count-upto f o) (omega (arith, leb-true most room h)) } }
+pub turns-first : {P : Type 0} {t : Two P} {v : List ℤ} → Formed t v → {most : ℕ} → most ≡ 2 * stop t - 1 → (o : Pairing) {c : Paired P} {room : ℕ} → room ≡ paired-room (t .width) c → Turns t o c c (leb most room)
+turns-first f {most} e o {c} {room} q = record { kept = refl; enough = λ h. le-trans (count-upto f o) (omega (arith, leb-true most room h)) }
 
 above-lt : (f : ℕ → ℕ) (n i : ℕ) → i < n → f i < above f n
 above-lt f zero i h = absurd (omega arith)

@@ -109,7 +109,7 @@ fn write_all(
     ensures { λ r. ⌜ Joined (two instants (now (starts .entry)) (now (ends .entry)) m) (pairing-of join) (now (values .entry)) (columns (now («out_start» .entry)) (now («out_end» .entry)) (now («out_left» .entry)) (now («out_right» .entry)) (now («out_presence» .entry))) (columns (now («out_start» .exit)) (now («out_end» .exit)) (now («out_left» .exit)) (now («out_right» .exit)) (now («out_presence» .exit))) r ⌝ }
 {
     let room = room_of(out_start, out_end, out_left, out_right, out_presence);
-    let mut write = enough(starts.len()) <= room;
+    let mut sure = enough(starts.len()) <= room;
     loop {
         let count = pass(
             join,
@@ -117,20 +117,20 @@ fn write_all(
             ends,
             values,
             m,
-            write,
+            sure,
             out_start,
             out_end,
             out_left,
             out_right,
             out_presence,
         );
-        if write {
+        if sure {
             return Answer::Done(count);
         }
         if room < count {
             return Answer::NoRoom(count);
         }
-        write = true;
+        sure = true;
     }
 }
 

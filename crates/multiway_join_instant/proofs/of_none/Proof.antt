@@ -14,7 +14,10 @@ of-none-spec =
     (λ c. search needs)
     (λ c combiner k. none-full combiner k (c .enum-told2 .given .1))
     (λ c κs. search needs)
-    (λ c combiner k. let e : tie.After-enum-told = search in none-lacks combiner k (e .enum-told .given .1) (omega arith) (sym (c .before .shortest .ensures) ∙ c .if1 .taken))
+    (λ c. search needs)
+    (λ c. search needs)
+    (λ c. search needs)
+    (λ c combiner k. let e : tie.After-enum-told = search in none-lacks combiner k (e .enum-told .given .1) (omega arith) (sym (c .before .room-of .ensures) ∙ c .if1 .taken))
     (λ c κs. search needs)
     (λ c κs. search needs)
     (λ c. search needs)
@@ -22,8 +25,8 @@ of-none-spec =
     (λ c. search needs)
     (λ c combiner k.
     let e : tie.After-enum-told = search in
-    let s : tie.After-shortest = search in
+    let s : tie.After-room-of = search in
     let t : tie.Else1 = search in
     let n : tie.After-greatest-key = search in
     let p : tie.After-put = search in
-    none-inner combiner k (e .enum-told .given .1) (n .greatest-key .ensures) (omega (arith, s .shortest .ensures, t .if1 .left)) (p .put .ensures)))
+    none-inner combiner k (e .enum-told .given .1) (n .greatest-key .ensures) (omega (arith, s .room-of .ensures, t .if1 .left)) (p .put .ensures)))

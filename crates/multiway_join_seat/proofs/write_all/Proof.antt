@@ -1,59 +1,49 @@
--- `multiway_join_seat::write_all` meets its contract. Assumes nothing.
+-- `multiway_join_seat::write_all` meets its contract: the first pass wrote, or it counted, and the second wrote if there was room. Assumes nothing.
+use mathlib.Core.Bool.{cond}
+use native.Mathlib.Omega.{arith}
 use borrow.Author.Needs.{needs}
-use Rattle.multiway_join.specs.Pieces.{output}
-use Rattle.multiway_join.proofs.Outcomes.{joinable, room-sure, joined-sure, joined-not, room-counted, joined-again}
+use Rattle.rules.specs.Lists.{seats, lists, lent}
+use Rattle.multiway_join.specs.Pieces.{output, operation}
+use Rattle.multiway_join.proofs.Outcomes.{Turns, turns-first, turns-joinable, turns-long, turns-again, turns-done, turns-not}
 use Rattle.multiway_join_seat.proofs.write_all.Statement.{statement}
 use Rattle.multiway_join_seat.proofs.write_all.Tie as tie
 
--- the entry, where the room and the most pieces are known, and where the pieces are counted
-abbrev entry : tie.After-most → tie.Start
-entry m = search
+abbrev Inv-loop : tie.InvT-loop
+Inv-loop join combiner starts ends values counts out-start₀ out-end₀ out-value₀ room sure₀ out-start out-end out-value sure =
+    Turns seats (operation join combiner) (lists seats (lent starts ends values counts)) (output out-start₀ out-end₀ out-value₀) (output out-start out-end out-value) sure
 
-abbrev room : tie.After-most → tie.After-shortest
-room m = search
+abbrev μ-loop : tie.MeasureT-loop
+μ-loop join combiner starts ends values counts out-start₀ out-end₀ out-value₀ room sure₀ out-start out-end out-value sure = cond sure 0 1
 
-abbrev sized : tie.After-pass → tie.After-most
-sized p = search
+abbrev Start : Type 0
+Start = tie.Start Inv-loop μ-loop
+
+abbrev Loop : Type 0
+Loop = tie.At-loop Inv-loop μ-loop
+
+abbrev Room : Type 0
+Room = tie.After-room-of Inv-loop μ-loop
+
+abbrev Pass : Type 0
+Pass = tie.After-pass Inv-loop μ-loop
 
 pub write-all-spec : {M : Type 1} → statement M
 write-all-spec =
     tie.close
     (tie.spec
+    Inv-loop
+    μ-loop
     (λ c κs. search needs)
-    (λ c κs. let a : tie.Start = search in a .pre .0 .ranges-few)
-    (λ c κs.
-    let m : tie.After-most = search in
-    let a = entry m in
-    (a .pre .0, joinable (a .pre .0) (a .pre .1) (a .args .join) (a .args .combiner) (room-sure (a .pre .0) (a .pre .1) (a .args .join) (a .args .combiner) (output (a .args .out-start .now) (a .args .out-end .now) (a .args .out-value .now)) (m .most .ensures) (room m .shortest .ensures))))
-    (λ c. search needs)
-    (λ c. search needs)
-    (λ c. search needs)
-    (λ c.
-    let p : tie.After-pass = search in
-    let m = sized p in
-    let a = entry m in
-    joined-sure (a .pre .0) (a .pre .1) (a .args .join) (a .args .combiner) (p .pass .ensures) (room-sure (a .pre .0) (a .pre .1) (a .args .join) (a .args .combiner) (output (a .args .out-start .now) (a .args .out-end .now) (a .args .out-value .now)) (m .most .ensures) (room m .shortest .ensures) (c .if1 .taken)) (c .if1 .taken))
-    (λ c. search needs)
-    (λ c. search needs)
-    (λ c. search needs)
-    (λ c.
-    let p : tie.After-pass = search in
-    let m = sized p in
-    let a = entry m in
-    joined-not (a .pre .0) (a .pre .1) (a .args .join) (a .args .combiner) (p .pass .ensures) (c .before .if1 .left) (room m .shortest .ensures) (c .if2 .taken))
-    (λ c κs.
-    let e : tie.Else2 = search in
-    let p : tie.After-pass = search in
-    let m = sized p in
-    let a = entry m in
-    (a .pre .0, joinable (a .pre .0) (a .pre .1) (a .args .join) (a .args .combiner) (λ t. room-counted (a .pre .0) (a .pre .1) (a .args .join) (a .args .combiner) (p .pass .ensures) (e .before .if1 .left) (room m .shortest .ensures) (e .if2 .left))))
-    (λ c. search needs)
-    (λ c. search needs)
-    (λ c. search needs)
-    (λ c.
-    let q : tie.After-pass2 = search in
-    let e : tie.Else2 = search in
-    let p : tie.After-pass = search in
-    let m = sized p in
-    let a = entry m in
-    joined-again (a .pre .0) (a .pre .1) (a .args .join) (a .args .combiner) (p .pass .ensures) (e .before .if1 .left) (room m .shortest .ensures) (e .if2 .left) (q .pass2 .ensures)))
+    (λ c κs. let a : Start = search in a .pre .0 .ranges-few)
+    (λ c. let m : tie.After-most Inv-loop μ-loop = search in let r : Room = search in let a : Start = search in turns-first (a .pre .0) (a .pre .1) (a .args .join) (a .args .combiner) (output (a .args .out-start .now) (a .args .out-end .now) (a .args .out-value .now)) (m .most .ensures) (r .room-of .ensures))
+    (λ c κs. let l : Loop = search in let a : Start = search in (a .pre .0, turns-joinable (a .pre .0) (a .pre .1) (a .args .join) (a .args .combiner) (l .loop .inv)))
+    (λ c. let l : Loop = search in let p : Pass = search in turns-long (l .loop .inv) (p .pass .ensures) .start)
+    (λ c. let l : Loop = search in let p : Pass = search in turns-long (l .loop .inv) (p .pass .ensures) .end)
+    (λ c. let l : Loop = search in let p : Pass = search in turns-long (l .loop .inv) (p .pass .ensures) .value)
+    (λ c. let l : Loop = search in let p : Pass = search in turns-done (l .loop .inv) (p .pass .ensures) (c .if1 .taken))
+    (λ c. let l : Loop = search in let p : Pass = search in turns-long (l .loop .inv) (p .pass .ensures) .start)
+    (λ c. let l : Loop = search in let p : Pass = search in turns-long (l .loop .inv) (p .pass .ensures) .end)
+    (λ c. let l : Loop = search in let p : Pass = search in turns-long (l .loop .inv) (p .pass .ensures) .value)
+    (λ c. let l : Loop = search in let p : Pass = search in let r : Room = search in turns-not (l .loop .inv) (p .pass .ensures) (c .before .if1 .left) (r .room-of .ensures) (c .if2 .taken))
+    (λ c. let e = c .before .if1 .left in rw e (omega arith))
+    (λ c. let l : Loop = search in let p : Pass = search in let r : Room = search in turns-again (l .loop .inv) (p .pass .ensures) (c .before .if1 .left) (r .room-of .ensures) (c .if2 .left)))

@@ -5,17 +5,17 @@ use borrow.Author.Needs.{needs}
 use Rattle.rules.specs.Lists.{instants}
 use Rattle.two_way.specs.Sides.{pairing-of, two}
 use Rattle.two_way.specs.Columns.{columns}
-use Rattle.two_way.proofs.Outcome.{Turn, turn-first, turn-room, turn-long, turn-again, joined-all, joined-not}
+use Rattle.two_way.proofs.Outcome.{Turns, turns-first, turns-room, turns-long, turns-again, turns-done, turns-not}
 use Rattle.two_way_join_instant.proofs.write_all.Statement.{statement}
 use Rattle.two_way_join_instant.proofs.write_all.Tie as tie
 
 abbrev Inv-loop : tie.InvT-loop
-Inv-loop join starts ends values m out-start₀ out-end₀ out-left₀ out-right₀ out-presence₀ room write₀ out-start out-end out-left out-right out-presence write =
-    Turn (two instants starts ends m) (pairing-of join) (columns out-start₀ out-end₀ out-left₀ out-right₀ out-presence₀) (columns out-start out-end out-left out-right out-presence) write
+Inv-loop join starts ends values m out-start₀ out-end₀ out-left₀ out-right₀ out-presence₀ room sure₀ out-start out-end out-left out-right out-presence sure =
+    Turns (two instants starts ends m) (pairing-of join) (columns out-start₀ out-end₀ out-left₀ out-right₀ out-presence₀) (columns out-start out-end out-left out-right out-presence) sure
 
 abbrev μ-loop : tie.MeasureT-loop
-μ-loop join starts ends values m out-start₀ out-end₀ out-left₀ out-right₀ out-presence₀ room write₀ out-start out-end out-left out-right out-presence write =
-    cond write 0 1
+μ-loop join starts ends values m out-start₀ out-end₀ out-left₀ out-right₀ out-presence₀ room sure₀ out-start out-end out-left out-right out-presence sure =
+    cond sure 0 1
 
 abbrev Start : Type 0
 Start = tie.Start Inv-loop μ-loop
@@ -37,19 +37,19 @@ write-all-spec =
     μ-loop
     (λ c κs. search needs)
     (λ c κs. search needs)
-    (λ c. let e : tie.After-enough Inv-loop μ-loop = search in let r : Room = search in let a : Start = search in turn-first (a .pre) (e .enough .ensures) (r .room-of .ensures))
-    (λ c κs. let l : Loop = search in let a : Start = search in (a .pre, turn-room (l .loop .inv)))
-    (λ c. let l : Loop = search in let p : Pass = search in turn-long (l .loop .inv) (p .pass .ensures) .start)
-    (λ c. let l : Loop = search in let p : Pass = search in turn-long (l .loop .inv) (p .pass .ensures) .end)
-    (λ c. let l : Loop = search in let p : Pass = search in turn-long (l .loop .inv) (p .pass .ensures) .left)
-    (λ c. let l : Loop = search in let p : Pass = search in turn-long (l .loop .inv) (p .pass .ensures) .right)
-    (λ c. let l : Loop = search in let p : Pass = search in turn-long (l .loop .inv) (p .pass .ensures) .presence)
-    (λ c. let l : Loop = search in let p : Pass = search in joined-all (l .loop .inv) (p .pass .ensures) (c .if1 .taken))
-    (λ c. let l : Loop = search in let p : Pass = search in turn-long (l .loop .inv) (p .pass .ensures) .start)
-    (λ c. let l : Loop = search in let p : Pass = search in turn-long (l .loop .inv) (p .pass .ensures) .end)
-    (λ c. let l : Loop = search in let p : Pass = search in turn-long (l .loop .inv) (p .pass .ensures) .left)
-    (λ c. let l : Loop = search in let p : Pass = search in turn-long (l .loop .inv) (p .pass .ensures) .right)
-    (λ c. let l : Loop = search in let p : Pass = search in turn-long (l .loop .inv) (p .pass .ensures) .presence)
-    (λ c. let l : Loop = search in let p : Pass = search in let r : Room = search in joined-not (l .loop .inv) (p .pass .ensures) (c .before .if1 .left) (r .room-of .ensures) (c .if2 .taken))
+    (λ c. let e : tie.After-enough Inv-loop μ-loop = search in let r : Room = search in let a : Start = search in turns-first (a .pre) (e .enough .ensures) (pairing-of (a .args .join)) (r .room-of .ensures))
+    (λ c κs. let l : Loop = search in let a : Start = search in (a .pre, turns-room (l .loop .inv)))
+    (λ c. let l : Loop = search in let p : Pass = search in turns-long (l .loop .inv) (p .pass .ensures) .start)
+    (λ c. let l : Loop = search in let p : Pass = search in turns-long (l .loop .inv) (p .pass .ensures) .end)
+    (λ c. let l : Loop = search in let p : Pass = search in turns-long (l .loop .inv) (p .pass .ensures) .left)
+    (λ c. let l : Loop = search in let p : Pass = search in turns-long (l .loop .inv) (p .pass .ensures) .right)
+    (λ c. let l : Loop = search in let p : Pass = search in turns-long (l .loop .inv) (p .pass .ensures) .presence)
+    (λ c. let l : Loop = search in let p : Pass = search in turns-done (l .loop .inv) (p .pass .ensures) (c .if1 .taken))
+    (λ c. let l : Loop = search in let p : Pass = search in turns-long (l .loop .inv) (p .pass .ensures) .start)
+    (λ c. let l : Loop = search in let p : Pass = search in turns-long (l .loop .inv) (p .pass .ensures) .end)
+    (λ c. let l : Loop = search in let p : Pass = search in turns-long (l .loop .inv) (p .pass .ensures) .left)
+    (λ c. let l : Loop = search in let p : Pass = search in turns-long (l .loop .inv) (p .pass .ensures) .right)
+    (λ c. let l : Loop = search in let p : Pass = search in turns-long (l .loop .inv) (p .pass .ensures) .presence)
+    (λ c. let l : Loop = search in let p : Pass = search in let r : Room = search in turns-not (l .loop .inv) (p .pass .ensures) (c .before .if1 .left) (r .room-of .ensures) (c .if2 .taken))
     (λ c. let e = c .before .if1 .left in rw e (omega arith))
-    (λ c. let l : Loop = search in let p : Pass = search in let r : Room = search in turn-again (l .loop .inv) (p .pass .ensures) (c .before .if1 .left) (r .room-of .ensures) (c .if2 .left)))
+    (λ c. let l : Loop = search in let p : Pass = search in let r : Room = search in turns-again (l .loop .inv) (p .pass .ensures) (c .before .if1 .left) (r .room-of .ensures) (c .if2 .left)))
