@@ -56,9 +56,14 @@ impl Default for Plan {
 /// A named part of the comparison.
 type Part<T> = (&'static str, Box<dyn Iterator<Item = Case<T>>>);
 
-/// Everything, both widths. Tells how many cases there were, or the first difference.
+/// Everything, both widths side by side. Tells how many cases there were, or the first difference.
 pub fn run(plan: Plan) -> Result<u64, String> {
-    let cases = run_width::<u32>(plan)? + run_width::<i64>(plan)?;
+    let (seats, instants) = std::thread::scope(|scope| {
+        let seats = scope.spawn(|| run_width::<u32>(plan));
+        let instants = run_width::<i64>(plan);
+        (seats.join().expect("a panic in a case is caught"), instants)
+    });
+    let cases = seats? + instants?;
     let listed = answers::compare_with_file()?;
     println!("answers.txt: {listed} cases");
     Ok(cases + listed)
