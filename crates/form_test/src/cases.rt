@@ -2,7 +2,7 @@ use rules::Kind;
 ghost use Prim.Native.Nat.{_<_, _≤_};
 
 // A case of up to three ranges: kind and combiner; the ranges, each its start and its end; the lists' counts. Kinds are l, a
-// listing, t, a two-way operation, j, a join, and s, a selection. A point stands where there is no range or list. A letter
+// listing, t, a two-way operation, j, a join, and s, a selection. A dot stands where there is no range or list. A letter
 // stands for a number: a and z for the least and the greatest point, M for 2^32 - 1, c for 255, p, q and h for 16, 17 and 128,
 // k, K and X for 2,047, 2,048 and 2,049.
 const FEW: [u8; 720] = *b"\

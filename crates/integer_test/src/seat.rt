@@ -9,9 +9,15 @@ use integer::seat::less;
 use integer::seat::same;
 use integer::seat::sub_one;
 
+const LEAST: Point = u32::MIN;
+
+const GREATEST: Point = u32::MAX;
+
+// Alike in both widths.
+
 pub fn ends() {
-    say(b"least", least() == Point::MIN);
-    say(b"greatest", greatest() == Point::MAX);
+    say(b"least", least() == LEAST);
+    say(b"greatest", greatest() == GREATEST);
     say(b"least < greatest", less(least(), greatest()));
     say(b"not greatest < least", !less(greatest(), least()));
     say(b"not greatest < greatest", !less(greatest(), greatest()));
@@ -20,22 +26,19 @@ pub fn ends() {
 }
 
 pub fn steps() {
-    say(b"least + 1", add_one(Point::MIN) == Point::MIN + 1);
-    say(b"up to greatest", add_one(Point::MAX - 1) == Point::MAX);
-    say(b"greatest - 1", sub_one(Point::MAX) == Point::MAX - 1);
-    say(b"down to least", sub_one(Point::MIN + 1) == Point::MIN);
+    say(b"least + 1", add_one(LEAST) == LEAST + 1);
+    say(b"up to greatest", add_one(GREATEST - 1) == GREATEST);
+    say(b"greatest - 1", sub_one(GREATEST) == GREATEST - 1);
+    say(b"down to least", sub_one(LEAST + 1) == LEAST);
 }
 
 pub fn checked_steps() {
-    say(
-        b"after least",
-        is_at(checked_add_one(Point::MIN), Point::MIN + 1),
-    );
+    say(b"after least", is_at(checked_add_one(LEAST), LEAST + 1));
     say(
         b"to greatest",
-        is_at(checked_add_one(Point::MAX - 1), Point::MAX),
+        is_at(checked_add_one(GREATEST - 1), GREATEST),
     );
-    say(b"past greatest", is_past(checked_add_one(Point::MAX)));
+    say(b"past greatest", is_past(checked_add_one(GREATEST)));
 }
 
 fn is_at(n: Next, a: Point) -> bool {

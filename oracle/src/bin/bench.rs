@@ -1,6 +1,7 @@
 //! The benchmark: the proved library beside the crate, in one process, on the same lists. Each time
-//! is the best of many; the library's include its form check and all its passes, and the crate's
-//! iterators are drained into the same columns.
+//! is the best of many; the library's include its form check and all its passes: with room for the
+//! most pieces that there can be, and with room for just the pieces that there are, where a join
+//! counts them first. The crate's iterators are drained into the same columns.
 
 use std::hint::black_box;
 use std::time::{Duration, Instant};
@@ -16,7 +17,8 @@ const SPAN: Duration = Duration::from_millis(150);
 const STREWN: [(&str, u64, u64); 2] = [("dense", 3, 6), ("spread", 1000, 10)];
 
 fn main() {
-    println!("operation               lists  strewn  crate ns/range  library ns/range  ratio");
+    println!("                                        ns for each range            ratio");
+    println!("operation               lists  strewn   crate  library  counted    library  counted");
     for operation in [Operation::TwoWayInner, Operation::TwoWayLeft, Operation::TwoWayFull] {
         rows(operation, &[2]);
     }
@@ -35,13 +37,16 @@ fn rows(operation: Operation, list_counts: &[u64]) {
     for (name, gap, length) in STREWN {
         for &count in list_counts {
             let lent = lists(count, gap, length);
-            let mut columns = columns(operation);
-            let by_crate = best(|| blaze_side::drain(operation, &lent, &mut columns));
-            let by_library = best(|| rattle_side::answer(operation, &lent, &mut columns));
+            let mut roomy = columns(operation, 2 * MOST_RANGES);
+            let by_crate = best(|| blaze_side::drain(operation, &lent, &mut roomy));
+            let by_library = best(|| rattle_side::answer(operation, &lent, &mut roomy));
+            let written = rattle_side::answer(operation, &lent, &mut roomy).expect("in the library");
+            let mut tight = columns(operation, written.number as usize);
+            let counted = best(|| rattle_side::answer(operation, &lent, &mut tight));
             let title = format!("{operation:?}");
-            let ratio = by_library / by_crate;
+            let (ratio, ratio_counted) = (by_library / by_crate, counted / by_crate);
             println!(
-                "{title:<22} {count:>6}  {name:<6} {by_crate:>15.1} {by_library:>17.1} {ratio:>6.2}"
+                "{title:<22} {count:>6}  {name:<6} {by_crate:>7.1}  {by_library:>7.1}  {counted:>7.1}    {ratio:>7.2}  {ratio_counted:>7.2}"
             );
         }
     }
@@ -63,9 +68,8 @@ fn lists(count: u64, gap: u64, length: u64) -> Lent<i64> {
     Lent::from_lists(&(0..count).map(list).collect::<Vec<Vec<_>>>())
 }
 
-/// Columns with room for all that an operation writes.
-fn columns(operation: Operation) -> Columns<i64> {
-    let room = 2 * MOST_RANGES;
+/// Columns of an operation with so much room.
+fn columns(operation: Operation, room: usize) -> Columns<i64> {
     match operation.column_count() {
         4 => Columns::Events {
             kinds: vec![0; room],
