@@ -9,7 +9,7 @@ use borrow.Author.Tests.{ltb-true, ltb-false, eqb-true, eqb-false}
 use Rattle.integer.specs.Order.{Less}
 use Rattle.heap.specs.Order.{Under, Ordered, one, count}
 use Rattle.heap.specs.Heap.{rank, Held, Heap, Pushed, Popped, Topped}
-use Rattle.heap.specs.Holes.{OrderedBut, Stored, Replaced, Lowers, Raises, Chosen, Put, Climbed, Sifted}
+use Rattle.heap.specs.Holes.{OrderedBut, Stored, Replaced, Sunk, Lowers, Raises, Chosen, Put, Climbed, Sifted}
 use Rattle.heap.proofs.Laws.{by-eq, count-more, count-none, heap-none}
 
 -- the order of entries, as the code tests it
@@ -76,17 +76,23 @@ climb-on {f} {m} {place = place} {p = p} w u l s = record {
       (λ nk. omega (arith, s .other i nk, s .other q (omega arith), w .ordered p i y z nk (omega arith)));
 }
 
--- the lesser child's entry comes up, and v goes on from the child's place
-sift-on : {f m : ℕ → ℕ} {n place c v : ℕ} → Raises f n place v → Chosen f n place c → f c < v → Stored f m place (f c) → Raises m n c v
+-- v sinks from the lesser child's place, and the child's entry comes up
+sift-on : {f m g : ℕ → ℕ} {n place c v : ℕ} → Raises f n place v → Chosen f n place c → f c < v → Sunk f m n c v → Stored m g place (f c) → Sunk f g n place v
 unfolding Ordered OrderedBut
-sift-on {f} {m} {place = place} {c = c} w ch l s = record {
-  inside = ch .inside;
-  ordered = stored-ordered s
-      (λ p i u y _ _. w .ordered p i u y)
-      (λ p u. omega (arith, w .ordered p place u (w .inside), w .ordered place c (ch .under) (ch .inside)))
-      (ch .least);
-  above = λ p u. let z : p ≡ place = omega arith in omega (arith, ap m z, s .here);
-}
+sift-on {f} {m} {g} {n} {place} {c} {v} w ch l k s =
+    let stays : m place ≡ f place = k .before place (omega (arith, ch .under .past)) in
+    let first : f place ≤ f c = w .ordered place c (ch .under) (ch .inside) in
+    let child : f c ≤ m c = k .least (f c) (omega arith) (λ i u y. w .ordered c i u y) in
+    record {
+      ordered = stored-ordered s
+          (λ p i u y _ _. k .ordered p i u y)
+          (λ p u. omega (arith, k .ordered p place u (w .inside), stays, first))
+          (λ i u y. by-eq i c (λ z. omega (arith, ap m z, child)) (λ ne. omega (arith, ch .least i u y, k .rises i ne)));
+      kept = λ e. omega (arith, stored-count s e n (w .inside), k .kept e, ap (one e) stays);
+      before = λ i y. s .other i (omega arith) ∙ k .before i (omega (arith, ch .under .past));
+      rises = λ i ne. by-eq i c (λ z. omega (arith, s .other i ne, ap m z, ap f z, child)) (λ nz. omega (arith, s .other i ne, k .rises i nz));
+      least = λ x y z. omega (arith, s .here, z c (ch .under) (ch .inside));
+    }
 
 -- a place has one parent
 pub one-parent : (f : ℕ → ℕ) (p : ℕ) {place v : ℕ} → Under p place → f p ≤ v → (q : ℕ) → Under q place → f q ≤ v
@@ -101,10 +107,27 @@ module _ {h r : Held} {place v : ℕ} where
 
   pub sift-stays : {n : ℕ} → Put h r place v → ((i : ℕ) → Under place i → i < n → v ≤ h .at i) → Sifted h r n place v
   unfolding Ordered OrderedBut
-  sift-stays s down = record { whole = s .whole; settled = λ o. rests (s .stored) (o .inside) (λ p i u y _ _. o .ordered p i u y) (o .above) down }
+  sift-stays s down = record {
+    whole = s .whole;
+    settled = λ o.
+        let t = rests (s .stored) (o .inside) (λ p i u y _ _. o .ordered p i u y) (o .above) down in
+        record {
+          ordered = t .ordered;
+          kept = t .kept;
+          before = λ i y. s .stored .other i (omega arith);
+          rises = λ i ne. omega (arith, s .stored .other i ne);
+          least = λ x y z. omega (arith, s .stored .here);
+        };
+  }
 
-  pub sift-goes : {m : Held} {n c : ℕ} → Chosen (h .at) n place c → h .at c < v → Put h m place (h .at c) → Sifted m r n c v → Sifted h r n place v
-  sift-goes ch l s k = record { whole = k .whole; settled = λ o. moved (o .inside) (omega (arith, ch .under .past)) (s .stored) (k .settled (sift-on o ch l (s .stored))) }
+  pub sift-goes : {m : Held} {n c : ℕ} → Chosen (h .at) n place c → h .at c < v → Sifted h m n c v → Put m r place (h .at c) → Sifted h r n place v
+  unfolding Ordered
+  sift-goes {m} {n} {c} ch l k s = record {
+    whole = s .whole;
+    settled = λ o.
+        let first : h .at place ≤ h .at c = o .ordered place c (ch .under) (ch .inside) in
+        sift-on o ch l (k .settled (record { inside = ch .inside; ordered = o .ordered; above = λ p u. let z : p ≡ place = omega arith in omega (arith, ap (h .at) z, first) })) (s .stored);
+  }
 
 pub only-child : (f : ℕ → ℕ) (n place c : ℕ) → c ≡ 2 * place + 1 → c < n → n ≤ c + 1 → Chosen f n place c
 only-child f n place c q l m = record {

@@ -18,6 +18,15 @@ pub record Replaced (f g : ℕ → ℕ) (n place v : ℕ) : Type 0 where
   pub ordered : Ordered g n
   pub kept : (e : ℕ) → count e g n + one e (f place) ≡ count e f n + one e v
 
+-- the same, where v sank from the place: what stands before it stays, no other place has less than before, and what is not above v
+-- and the place's children is not above what stands there then
+pub record Sunk (f g : ℕ → ℕ) (n place v : ℕ) : Type 0 where
+  pub ordered : Ordered g n
+  pub kept : (e : ℕ) → count e g n + one e (f place) ≡ count e f n + one e v
+  pub before : (i : ℕ) → i < place → g i ≡ f i
+  pub rises : (i : ℕ) → (i ≡ place → ⊥) → f i ≤ g i
+  pub least : (x : ℕ) → x ≤ v → ((i : ℕ) → Under place i → i < n → x ≤ f i) → x ≤ g place
+
 -- v may climb from a place: f is in order but for that place, to whose children neither v nor its parent is above
 pub record Lowers (f : ℕ → ℕ) (n place v : ℕ) : Type 0 where
   pub inside : place < n
@@ -48,4 +57,4 @@ pub record Climbed (h r : Held) (place v : ℕ) : Type 0 where
 
 pub record Sifted (h r : Held) (n place v : ℕ) : Type 0 where
   pub whole : Whole r
-  pub settled : Raises (h .at) n place v → Replaced (h .at) (r .at) n place v
+  pub settled : Raises (h .at) n place v → Sunk (h .at) (r .at) n place v

@@ -69,8 +69,8 @@ fn sift(keys: &mut [u64; 16], lists: &mut [u8; 16], len: usize, place: usize, ke
         let below = keys[child];
         let below_list = lists[child];
         if earlier(below, below_list, key, list) {
-            put(keys, lists, place, below, below_list);
             sift(keys, lists, len, child, key, list);
+            put(keys, lists, place, below, below_list);
             return;
         }
     }

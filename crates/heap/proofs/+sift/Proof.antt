@@ -29,7 +29,7 @@ pub +sift-spec : {M : Type 1} → statement M
     close
     μ-sift
     λ t. sift-lts.spec
-    (lesser-reads.Asked, lesser-reads.Learnt, earlier-reads.Asked, earlier-reads.Learnt, put-reads.Asked, put-reads.Learnt, sift-below t, sift.Post)
+    (lesser-reads.Asked, lesser-reads.Learnt, earlier-reads.Asked, earlier-reads.Learnt, sift-below t, sift.Post, put-reads.Asked, put-reads.Learnt)
     (sift-at t)
     sift.Post
     (λ c. omega arith)
@@ -39,20 +39,18 @@ pub +sift-spec : {M : Type 1} → statement M
     (λ c. omega arith)
     (λ c. omega arith)
     (λ c κs. tt)
-    (λ c κs. search needs)
     (λ c κs.
-    let k = c .before .before .before .before .before .before .before .before .before .lesser in
-    let b = c .before .before .before .before .before .before .before .before .before .before .before .before .before in
-    (omega (arith, k .ensures .under .past, k .ensures .inside, b .pre), (c .before .before .put .ensures .whole, omega (arith, k .ensures .inside, b .pre), b .pre .1 .2)))
+    let k = c .before .before .before .before .before .before .lesser in
+    let b = c .before .before .before .before .before .before .before .before .before .before in
+    (omega (arith, k .ensures .under .past, k .ensures .inside, b .pre), (b .pre .1 .0, omega (arith, k .ensures .inside, b .pre), b .pre .1 .2)))
+    (λ c κs. let b = c .before .before .before .before .before .before .before .before .before .before .before .before .before in (c .before .before .sift .ensures .whole, b .pre .1 .1))
     (λ c.
     let e = c .before .before .before .before .before .before .before in
-    let k = e .before .before .before in
-    let b = k .before .before .before .before in
     sift-goes
-    (k .lesser .ensures)
+    (e .before .before .before .lesser .ensures)
     (e .earlier .ensures .yes (c .before .before .before .before .before .before .if2 .taken))
-    (c .before .before .before .put .ensures)
-    (c .sift .ensures))
+    (c .before .before .before .sift .ensures)
+    (c .put .ensures))
     (λ c κs. search needs)
     (λ c.
     let b = c .before .before .before .before in
