@@ -17,10 +17,12 @@ const SPAN: Duration = Duration::from_millis(150);
 const STREWN: [(&str, u64, u64); 2] = [("dense", 3, 6), ("spread", 1000, 10)];
 
 fn main() {
-    println!("                                        ns for each range            ratio");
-    println!("operation               lists  strewn   crate  library  counted    library  counted");
+    println!("                                                ns for each range            ratio");
+    println!(
+        "operation               lists  ranges  strewn   crate  library  counted    library  counted"
+    );
     for operation in [Operation::TwoWayInner, Operation::TwoWayLeft, Operation::TwoWayFull] {
-        rows(operation, &[2]);
+        rows(operation, &[2], MOST_RANGES);
     }
     for operation in [
         Operation::Events,
@@ -29,31 +31,35 @@ fn main() {
         Operation::Full(1),
         Operation::Full(2),
     ] {
-        rows(operation, &[2, 4, 16]);
+        rows(operation, &[2, 4, 16], MOST_RANGES);
+    }
+    for ranges in [MOST_RANGES / 8, MOST_RANGES / 4, MOST_RANGES / 2] {
+        rows(Operation::Full(1), &[4], ranges);
     }
 }
 
-fn rows(operation: Operation, list_counts: &[u64]) {
+fn rows(operation: Operation, list_counts: &[u64], ranges: usize) {
     for (name, gap, length) in STREWN {
         for &count in list_counts {
-            let lent = lists(count, gap, length);
+            let lent = lists(count, ranges, gap, length);
             let mut roomy = columns(operation, 2 * MOST_RANGES);
-            let by_crate = best(|| blaze_side::drain(operation, &lent, &mut roomy));
-            let by_library = best(|| rattle_side::answer(operation, &lent, &mut roomy));
-            let written = rattle_side::answer(operation, &lent, &mut roomy).expect("in the library");
+            let by_crate = best(ranges, || blaze_side::drain(operation, &lent, &mut roomy));
+            let by_library = best(ranges, || rattle_side::answer(operation, &lent, &mut roomy));
+            let written =
+                rattle_side::answer(operation, &lent, &mut roomy).expect("in the library");
             let mut tight = columns(operation, written.number as usize);
-            let counted = best(|| rattle_side::answer(operation, &lent, &mut tight));
+            let counted = best(ranges, || rattle_side::answer(operation, &lent, &mut tight));
             let title = format!("{operation:?}");
             let (ratio, ratio_counted) = (by_library / by_crate, counted / by_crate);
             println!(
-                "{title:<22} {count:>6}  {name:<6} {by_crate:>7.1}  {by_library:>7.1}  {counted:>7.1}    {ratio:>7.2}  {ratio_counted:>7.2}"
+                "{title:<22} {count:>6} {ranges:>7}  {name:<6} {by_crate:>7.1}  {by_library:>7.1}  {counted:>7.1}    {ratio:>7.2}  {ratio_counted:>7.2}"
             );
         }
     }
 }
 
-/// So many instants' lists that have the most ranges together.
-fn lists(count: u64, gap: u64, length: u64) -> Lent<i64> {
+/// So many instants' lists that have so many ranges together.
+fn lists(count: u64, ranges: usize, gap: u64, length: u64) -> Lent<i64> {
     let random = &mut Random::of_case(7, "bench", count * 10_000 + gap);
     let list = |_| {
         let mut next = 0;
@@ -63,7 +69,7 @@ fn lists(count: u64, gap: u64, length: u64) -> Lent<i64> {
             next = end + 1;
             Tariff { start, end, value: random.between(0, 900) as i32 }
         };
-        (0..MOST_RANGES as u64 / count).map(range).collect()
+        (0..ranges as u64 / count).map(range).collect()
     };
     Lent::from_lists(&(0..count).map(list).collect::<Vec<Vec<_>>>())
 }
@@ -89,7 +95,7 @@ fn columns(operation: Operation, room: usize) -> Columns<i64> {
 }
 
 /// The best time of a run, in nanoseconds for each range.
-fn best<R>(mut run: impl FnMut() -> R) -> f64 {
+fn best<R>(ranges: usize, mut run: impl FnMut() -> R) -> f64 {
     let mut least = Duration::MAX;
     let began = Instant::now();
     while began.elapsed() < SPAN {
@@ -97,5 +103,5 @@ fn best<R>(mut run: impl FnMut() -> R) -> f64 {
         black_box(run());
         least = least.min(start.elapsed());
     }
-    least.as_nanos() as f64 / MOST_RANGES as f64
+    least.as_nanos() as f64 / ranges as f64
 }
