@@ -82,19 +82,19 @@ const MANY: [u8; 238] = *b"\
 
 pub const MANY_ROWS: usize = 17;
 
-pub fn few(row: usize, column: usize) -> u8
+pub(crate) fn few(row: usize, column: usize) -> u8
     requires { ⌜ (row < 48) × (column < 15) ⌝ }
 {
     FEW[15 * row + column]
 }
 
-pub fn many(row: usize, column: usize) -> u8
+pub(crate) fn many(row: usize, column: usize) -> u8
     requires { ⌜ (row < 17) × (column < 14) ⌝ }
 {
     MANY[14 * row + column]
 }
 
-pub fn number(letter: u8) -> u32 {
+pub(crate) fn number(letter: u8) -> u32 {
     match letter {
         b'M' => 4294967295,
         b'c' => 255,
@@ -108,7 +108,7 @@ pub fn number(letter: u8) -> u32 {
     }
 }
 
-pub fn size(letter: u8, most: usize) -> usize
+pub(crate) fn size(letter: u8, most: usize) -> usize
     ensures { λ r. ⌜ r ≤ most ⌝ }
 {
     let n = number(letter) as usize;
@@ -128,21 +128,21 @@ fn size_of(a: u8, b: u8, c: u8) -> usize
     if c == b'.' { 2 } else { 3 }
 }
 
-pub fn ranges(row: usize) -> usize
+pub(crate) fn ranges(row: usize) -> usize
     requires { ⌜ row < 48 ⌝ }
     ensures { λ r. ⌜ r ≤ 3 ⌝ }
 {
     size_of(few(row, 3), few(row, 6), few(row, 9))
 }
 
-pub fn lists(row: usize) -> usize
+pub(crate) fn lists(row: usize) -> usize
     requires { ⌜ row < 48 ⌝ }
     ensures { λ r. ⌜ r ≤ 3 ⌝ }
 {
     size_of(few(row, 12), few(row, 13), few(row, 14))
 }
 
-pub fn counts(row: usize) -> [u32; 3]
+pub(crate) fn counts(row: usize) -> [u32; 3]
     requires { ⌜ row < 48 ⌝ }
 {
     [
@@ -152,7 +152,7 @@ pub fn counts(row: usize) -> [u32; 3]
     ]
 }
 
-pub fn kind(letter: u8, combiner: u8) -> Kind {
+pub(crate) fn kind(letter: u8, combiner: u8) -> Kind {
     match letter {
         b'l' => Kind::Listing,
         b't' => Kind::TwoWay,

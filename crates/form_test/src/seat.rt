@@ -32,7 +32,7 @@ fn points(row: usize, from: usize) -> [Point; 3]
     ]
 }
 
-pub fn judged_few(row: usize) -> Judgement
+pub(crate) fn judged_few(row: usize) -> Judgement
     requires { ⌜ row < 48 ⌝ }
 {
     let starts = points(row, 3);
@@ -67,7 +67,7 @@ fn ascending(n: usize, last: usize) -> [Point; 2049]
     points
 }
 
-pub fn judged_many(row: usize) -> Judgement
+pub(crate) fn judged_many(row: usize) -> Judgement
     requires { ⌜ row < 17 ⌝ }
 {
     let a = size(many(row, 3), 2049);
