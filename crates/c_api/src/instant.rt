@@ -8,13 +8,13 @@ use two_way_join_instant::full_join;
 use two_way_join_instant::inner_join;
 use two_way_join_instant::left_join;
 ghost use Rattle.rules.specs.Lists.{instants, lent};
+ghost use Rattle.rules.specs.Said.{Said};
 ghost use Rattle.rules.specs.TwoWay.{inner, left, full};
 ghost use Rattle.rules.specs.Outcomes.{pairing, listing, merging};
 ghost use Rattle.rules.specs.Outcomes as joins;
 ghost use Rattle.two_way.specs.Columns.{columns};
 ghost use Rattle.event_listing.specs.Listing.{columns as listed};
 ghost use Rattle.multiway_join.specs.Pieces.{output};
-ghost use Rattle.c_api.specs.Said.{Said};
 
 #[no_mangle]
 pub extern "C" fn guineatwirl_instant_list_events(

@@ -15,13 +15,12 @@ use Rattle.rules.specs.Outcomes.{Listed, event-value, listed-room, lay-listed}
 use Rattle.rules.specs.Refusals.{Agree}
 use Rattle.rules.specs.Proving.Below.{size}
 use Rattle.rules.proofs.At.{within-le}
-use Rattle.rules.proofs.Columns.{length-ranges}
+use Rattle.rules.proofs.Columns.{lists-length, lists-size}
 use Rattle.rules.proofs.Fronts.{drop-lt, drop-more, front-long, front-more}
-use Rattle.rules.proofs.Sweep.{all-map, all-append, all-right, all-sort, events-length}
+use Rattle.rules.proofs.Sweep.{all-both, all-append, all-right, all-sort, own-list, own-point, events-length}
 use Rattle.multiway_sweep.specs.Steps.{Arrays, columns as swept, arrays, Sweeping}
 use Rattle.multiway_sweep.specs.Begins.{Filled}
 use Rattle.multiway_sweep.specs.declared.Sizes.{Sizes}
-use Rattle.multiway_sweep.proofs.Filled.{cut-length}
 use Rattle.event_listing.specs.Listing.{columns, RowOf, all, Writable, put-row, Put, Listable, Wrote}
 use Rattle.event_listing.specs.declared.Row.{Row}
 
@@ -33,13 +32,9 @@ module _ {A : Type 0} where
   abbrev Small : ℕ → ℕ → Event A → Type 0
   Small n m e = (point e < n) × (list e < m)
 
-  own-small : (k b n : ℕ) (l : List (Piece A)) → Within b n l → All (λ e. (point e < n) × (list e ≡ k)) (own k l)
-  own-small k b n [] w = tt
-  own-small k b n (x ∷ xs) w = let h = within-le (x .end + 1) n xs (w .2) in ((omega arith, refl), ((omega arith, refl), own-small k (x .end + 1) n xs (w .2)))
-
   listed-small : (k n m : ℕ) (ls : List (List (Piece A))) → AllWellFormed n ls → k + length ls ≤ m → All (Small n m) (listed k ls)
   listed-small k n m [] w h = tt
-  listed-small k n m (l ∷ ls) w h = all-append _ (own k l) (listed (suc k) ls) (all-map (λ e s. (s .0, omega (arith, s .1))) (own k l) (own-small k 0 n l (w .0))) (listed-small (suc k) n m ls (w .1) (omega arith))
+  listed-small k n m (l ∷ ls) w h = all-append _ (own k l) (listed (suc k) ls) (all-both (λ e p q. (p, omega arith)) (own k l) (own-point k 0 n l (w .0)) (own-list k l)) (listed-small (suc k) n m ls (w .1) (omega arith))
 
   events-small : (n : ℕ) (ls : List (List (Piece A))) → AllWellFormed n ls → All (Small n (length ls)) (events ls)
   unfolding events
@@ -53,15 +48,8 @@ pub record Long {P : Type 0} (c d : Listed P) : Type 0 where
   pub value : length (d .value) ≡ length (c .value)
 
 -- n ranges give 2n events
-size-cut : {A : Type 0} (s e : ℕ → ℕ) (v : ℕ → A) (i : ℕ) (ns : List ℕ) → size (cut s e v i ns) ≡ total ns
-size-cut s e v i [] = refl
-size-cut s e v i (n ∷ ns) = omega (arith, length-ranges s e v i n, size-cut s e v (i + n) ns)
-
 pub events-count : {P : Type 0} (w : Width P) (l : Lent P) → Agree l → length (all w l) ≡ 2 * length (l .starts)
-events-count w l g = events-length (lists w l) ∙ ap (λ n. 2 * n) (size-cut (keys w (l .starts)) (keys w (l .ends)) (λ i. getD (l .values) i (pos 0)) 0 (l .counts) ∙ g .adds-up)
-
-lists-length : {P : Type 0} (w : Width P) (l : Lent P) → length (lists w l) ≡ length (l .counts)
-lists-length w l = cut-length (keys w (l .starts)) (keys w (l .ends)) (λ i. getD (l .values) i (pos 0)) 0 (l .counts)
+events-count w l g = events-length (lists w l) ∙ ap (λ n. 2 * n) (lists-size w l ∙ g .adds-up)
 
 -- n events are written, and a sweep stands before the rest
 pub record Written {P : Type 0} (w : Width P) (l : Lent P) (c d : Listed P) (a : Arrays) (z : Sizes) (n : ℕ) : Type 0 where

@@ -1,13 +1,13 @@
 use event_listing::row_of;
 use event_listing::shortest;
-use form::instant::judge;
+use form_instant::judge;
 use integer::instant::Point;
 use integer::instant::put_key;
+use multiway_step_instant::fill;
+use multiway_step_instant::step;
 use multiway_sweep::Event;
 use multiway_sweep::Sizes;
 use multiway_sweep::Step;
-use multiway_sweep_instant::fill;
-use multiway_sweep_instant::step;
 use rules::Answer;
 use rules::Judgement;
 use rules::Kind;

@@ -1,13 +1,13 @@
 use event_listing::row_of;
 use event_listing::shortest;
-use form::seat::judge;
+use form_seat::judge;
 use integer::seat::Point;
 use integer::seat::put_key;
+use multiway_step_seat::fill;
+use multiway_step_seat::step;
 use multiway_sweep::Event;
 use multiway_sweep::Sizes;
 use multiway_sweep::Step;
-use multiway_sweep_seat::fill;
-use multiway_sweep_seat::step;
 use rules::Answer;
 use rules::Judgement;
 use rules::Kind;

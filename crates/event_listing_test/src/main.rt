@@ -1,13 +1,17 @@
-// Prints listings of small lists at both widths: the answer, and then six places of the columns as the call leaves them.
+// Listings of small lists, for seats and for instants: the case as its table has it, the answer, and the six places of the
+// columns as the call leaves them.
+pub mod cases;
 pub mod instant;
 pub mod seat;
 
+use cases::ROWS;
+use cases::letter;
 use rules::Answer;
 use rules::code;
 use rules::number;
+ghost use Prim.Native.Nat.{_<_};
 
-fn say(name: &[u8], answer: Answer) {
-    io::write_all(1, name);
+fn print_answer(answer: Answer) {
     let Answer::Done(count) = answer else {
         io::write_all(1, b": refused ");
         io::print_decimal(1, code(answer) as u64);
@@ -22,7 +26,7 @@ fn say(name: &[u8], answer: Answer) {
 }
 
 // A number by its key, where 0 has the key `zero`.
-fn signed(key: u64, zero: u64) {
+fn print_signed(key: u64, zero: u64) {
     io::write_all(1, b" ");
     if key < zero {
         io::write_all(1, b"-");
@@ -33,27 +37,51 @@ fn signed(key: u64, zero: u64) {
 }
 
 // One place of the columns: kind, point, list and value.
-fn row(kind: u8, point: u64, zero: u64, list: u8, value: i32) {
+fn print_place(kind: u8, point: u64, zero: u64, list: u8, value: i32) {
     io::print_decimal(1, kind as u64);
-    signed(point, zero);
+    print_signed(point, zero);
     io::write_all(1, b" ");
     io::print_decimal(1, list as u64);
-    signed(
+    print_signed(
         integer::instant::key(value as i64),
         integer::instant::key(0),
     );
     io::write_all(1, b"\n");
 }
 
+fn print_case(row: usize)
+    requires { ⌜ row < 17 ⌝ }
+{
+    let mut i: usize = 0;
+    while i < 18 {
+        io::write_all(1, &[letter(row, i)]);
+        i += 1;
+    }
+}
+
+fn list_case(row: usize)
+    requires { ⌜ row < 17 ⌝ }
+{
+    print_case(row);
+    io::write_all(1, b" seats");
+    seat::list_case(row);
+    print_case(row);
+    io::write_all(1, b" instants");
+    instant::list_case(row);
+}
+
+fn list_cases() {
+    let mut row: usize = 0;
+    while row < ROWS {
+        list_case(row);
+        row += 1;
+    }
+}
+
 fn main() {
-    io::write_all(1, b"seat\n");
-    seat::orders();
-    seat::ends_of_the_line();
-    seat::rooms();
-    seat::refusals();
-    io::write_all(1, b"instant\n");
-    instant::orders();
-    instant::ends_of_the_line();
-    instant::rooms();
-    instant::refusals();
+    list_cases();
+    io::write_all(1, b"too many seats\n");
+    seat::list_too_many();
+    io::write_all(1, b"too many instants\n");
+    instant::list_too_many();
 }

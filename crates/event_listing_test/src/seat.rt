@@ -1,15 +1,18 @@
-use crate::row;
-use crate::say;
+use crate::cases::counts;
+use crate::cases::letter;
+use crate::cases::size;
+use crate::print_answer;
+use crate::print_place;
 use event_listing_seat::list_events;
 use integer::seat::Point;
 use integer::seat::greatest;
 use integer::seat::key;
 use integer::seat::key_at;
 use integer::seat::least;
-ghost use Prim.Native.Nat.{_≤_};
+ghost use Prim.Native.Nat.{_<_, _≤_};
 
 // Six places to write to, but fewer for the values; a place that is left has kind 9.
-fn list(name: &[u8], starts: &[Point], ends: &[Point], values: &[i32], counts: &[u32], room: usize)
+fn list(starts: &[Point], ends: &[Point], values: &[i32], counts: &[u32], room: usize)
     requires { ⌜ room ≤ 6 ⌝ }
 {
     let mut out_kind: [u8; 6] = [9; 6];
@@ -26,11 +29,11 @@ fn list(name: &[u8], starts: &[Point], ends: &[Point], values: &[i32], counts: &
         &mut out_list,
         &mut out_value[..room],
     );
-    say(name, answer);
+    print_answer(answer);
     let zero = key(0);
     let mut i: usize = 0;
     while i < 6 {
-        row(
+        print_place(
             out_kind[i],
             key_at(&out_point, i),
             zero,
@@ -41,61 +44,47 @@ fn list(name: &[u8], starts: &[Point], ends: &[Point], values: &[i32], counts: &
     }
 }
 
-// The ranges [a..b] and [c..d].
-fn two(name: &[u8], a: Point, b: Point, c: Point, d: Point, counts: &[u32], room: usize)
-    requires { ⌜ room ≤ 6 ⌝ }
+fn point(letter: u8) -> Point {
+    match letter {
+        b'a' => least(),
+        b'z' => greatest(),
+        _ => (letter % 16) as Point,
+    }
+}
+
+// The starts of a case, or its ends.
+fn points(row: usize, from: usize) -> [Point; 3]
+    requires { ⌜ (row < 17) × (from < 4) ⌝ }
 {
-    list(name, &[a, c], &[b, d], &[100, -20], counts, room);
+    [
+        point(letter(row, from)),
+        point(letter(row, from + 3)),
+        point(letter(row, from + 6)),
+    ]
 }
 
-// The ranges [a..b], [c..d] and [e..f].
-fn three(
-    name: &[u8],
-    a: Point,
-    b: Point,
-    c: Point,
-    d: Point,
-    e: Point,
-    f: Point,
-    counts: &[u32],
-    room: usize,
-)
-    requires { ⌜ room ≤ 6 ⌝ }
+pub(crate) fn list_case(row: usize)
+    requires { ⌜ row < 17 ⌝ }
 {
-    list(name, &[a, c, e], &[b, d, f], &[5, 6, -7], counts, room);
+    let starts = points(row, 2);
+    let ends = points(row, 3);
+    let values: [i32; 3] = [100, -20, 5];
+    let counts = counts(row);
+    let n = size(row, 0, 3);
+    let lists = size(row, 11, 3);
+    list(
+        &starts[..n],
+        &ends[..n],
+        &values[..n],
+        &counts[..lists],
+        size(row, 17, 6),
+    );
 }
 
-pub fn orders() {
-    two(b"sharing 5", 1, 5, 5, 9, &[1, 1], 6);
-    two(b"the same, swapped", 5, 9, 1, 5, &[1, 1], 6);
-    two(b"within", 3, 4, 1, 9, &[0, 1, 1], 6);
-    three(b"touching", 1, 2, 3, 4, 2, 3, &[2, 0, 1], 6);
-    three(b"one range thrice", 4, 6, 4, 6, 4, 6, &[1, 1, 1], 6);
-    three(b"one point thrice", 4, 4, 4, 4, 4, 4, &[1, 1, 1], 6);
-}
-
-pub fn ends_of_the_line() {
-    let a = least();
-    let z = greatest();
-    two(b"greatest twice", z, z, z, z, &[1, 1], 6);
-    three(b"least, greatest, all", a, a, z, z, a, z, &[2, 1], 6);
-}
-
-pub fn rooms() {
-    let none: [Point; 0] = [];
-    list(b"no lists", &none, &none, &[], &[], 6);
-    list(b"empty lists", &none, &none, &[], &[0, 0], 0);
-    three(b"room for six", 1, 2, 3, 4, 5, 6, &[3], 6);
-    three(b"a value short", 1, 2, 3, 4, 5, 6, &[3], 5);
-}
-
-pub fn refusals() {
+// 2,049 ranges, then the same with too few values, and 17 lists.
+pub(crate) fn list_too_many() {
     let points: [Point; 2049] = [3; 2049];
-    list(b"2,049 ranges", &points, &points, &[5; 2049], &[2049], 6);
-    list(b"values too few", &points, &points, &[5], &[2049], 6);
-    two(b"17 lists", 1, 0, 1, 0, &[0; 17], 6);
-    two(b"counts too few", 1, 0, 1, 0, &[1], 6);
-    two(b"backward", 1, 5, 3, 2, &[2], 0);
-    two(b"overlapping", 1, 5, 5, 9, &[2], 0);
-    two(b"5 before 6", 1, 5, 5, 2, &[2], 0);
+    list(&points, &points, &[5; 2049], &[2049], 6);
+    list(&points, &points, &[5], &[2049], 6);
+    list(&[1, 1], &[0, 0], &[5, 5], &[0; 17], 6);
 }

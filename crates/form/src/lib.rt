@@ -1,6 +1,3 @@
-pub mod instant;
-pub mod seat;
-
 use rules::Answer;
 use rules::Judgement;
 use rules::Kind;

@@ -6,7 +6,7 @@ use crate::cases::many;
 use crate::cases::number;
 use crate::cases::ranges;
 use crate::cases::size;
-use form::instant::judge;
+use form_instant::judge;
 use integer::instant::Point;
 use integer::instant::greatest;
 use integer::instant::least;

@@ -6,7 +6,7 @@ use crate::cases::many;
 use crate::cases::number;
 use crate::cases::ranges;
 use crate::cases::size;
-use form::seat::judge;
+use form_seat::judge;
 use integer::seat::Point;
 use integer::seat::greatest;
 use integer::seat::least;

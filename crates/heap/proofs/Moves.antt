@@ -84,11 +84,13 @@ sift-on {f} {m} {g} {n} {place} {c} {v} w ch l k s =
     let first : f place ≤ f c = w .ordered place c (ch .under) (ch .inside) in
     let child : f c ≤ m c = k .least (f c) (omega arith) (λ i u y. w .ordered c i u y) in
     record {
-      ordered = stored-ordered s
-          (λ p i u y _ _. k .ordered p i u y)
-          (λ p u. omega (arith, k .ordered p place u (w .inside), stays, first))
-          (λ i u y. by-eq i c (λ z. omega (arith, ap m z, child)) (λ ne. omega (arith, ch .least i u y, k .rises i ne)));
-      kept = λ e. omega (arith, stored-count s e n (w .inside), k .kept e, ap (one e) stays);
+      replaced = record {
+        ordered = stored-ordered s
+            (λ p i u y _ _. k .replaced .ordered p i u y)
+            (λ p u. omega (arith, k .replaced .ordered p place u (w .inside), stays, first))
+            (λ i u y. by-eq i c (λ z. omega (arith, ap m z, child)) (λ ne. omega (arith, ch .least i u y, k .rises i ne)));
+        kept = λ e. omega (arith, stored-count s e n (w .inside), k .replaced .kept e, ap (one e) stays);
+      };
       before = λ i y. s .other i (omega arith) ∙ k .before i (omega (arith, ch .under .past));
       rises = λ i ne. by-eq i c (λ z. omega (arith, s .other i ne, ap m z, ap f z, child)) (λ nz. omega (arith, s .other i ne, k .rises i nz));
       least = λ x y z. omega (arith, s .here, z c (ch .under) (ch .inside));
@@ -110,10 +112,8 @@ module _ {h r : Held} {place v : ℕ} where
   sift-stays s down = record {
     whole = s .whole;
     settled = λ o.
-        let t = rests (s .stored) (o .inside) (λ p i u y _ _. o .ordered p i u y) (o .above) down in
         record {
-          ordered = t .ordered;
-          kept = t .kept;
+          replaced = rests (s .stored) (o .inside) (λ p i u y _ _. o .ordered p i u y) (o .above) down;
           before = λ i y. s .stored .other i (omega arith);
           rises = λ i ne. omega (arith, s .stored .other i ne);
           least = λ x y z. omega (arith, s .stored .here);
@@ -172,7 +172,7 @@ module _ {h r : Held} {n v : ℕ} (o : Heap h n) where
 
   pub topped : 0 < n → Sifted h r n 0 v → Topped h r n v
   topped l c =
-      let t = c .settled (record { inside = l; ordered = o .ordered; above = λ p u. absurd (omega arith) }) in
+      let t = c .settled (record { inside = l; ordered = o .ordered; above = λ p u. absurd (omega arith) }) .replaced in
       record { heap = record { whole = c .whole; small = o .small; ordered = t .ordered }; kept = t .kept }
 
 -- the last entry takes the place of the top; where it is the top, nothing is left
@@ -195,7 +195,7 @@ popped {h} {r} {n} o l c =
       );
     })
     (λ nz.
-    let t = c .settled (record { inside = omega arith; ordered = λ p i u x. o .ordered p i u (omega arith); above = λ p u. absurd (omega arith) }) in
+    let t = c .settled (record { inside = omega arith; ordered = λ p i u x. o .ordered p i u (omega arith); above = λ p u. absurd (omega arith) }) .replaced in
     record {
       heap = record { whole = c .whole; small = omega (arith, o .small); ordered = t .ordered };
       kept = λ k. omega (arith, t .kept k, all k);

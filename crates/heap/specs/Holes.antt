@@ -21,8 +21,7 @@ pub record Replaced (f g : ℕ → ℕ) (n place v : ℕ) : Type 0 where
 -- the same, where v sank from the place: what stands before it stays, no other place has less than before, and what is not above v
 -- and the place's children is not above what stands there then
 pub record Sunk (f g : ℕ → ℕ) (n place v : ℕ) : Type 0 where
-  pub ordered : Ordered g n
-  pub kept : (e : ℕ) → count e g n + one e (f place) ≡ count e f n + one e v
+  pub replaced : Replaced f g n place v
   pub before : (i : ℕ) → i < place → g i ≡ f i
   pub rises : (i : ℕ) → (i ≡ place → ⊥) → f i ≤ g i
   pub least : (x : ℕ) → x ≤ v → ((i : ℕ) → Under place i → i < n → x ≤ f i) → x ≤ g place

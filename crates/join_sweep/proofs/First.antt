@@ -13,7 +13,7 @@ use Rattle.rules.specs.ManyWay.{present}
 use Rattle.rules.specs.Sweep as rules
 use Rattle.rules.specs.Proving.Below.{nones}
 use Rattle.rules.proofs.At.{within-le}
-use Rattle.rules.proofs.Sweep.{kind-small, all-in}
+use Rattle.rules.proofs.Sweep.{kind-small, all-in, own-point}
 use Rattle.multiway_sweep.specs.Front.{Front}
 use Rattle.multiway_sweep.specs.Steps.{Columns, Arrays, event}
 use Rattle.multiway_sweep.specs.declared.Event.{Event}
@@ -31,10 +31,6 @@ use Rattle.join_sweep.proofs.Active.{active-length, count-none, nones-c
 use Rattle.join_sweep.proofs.Turns.{moved}
 
 module _ {A : Type 0} where
-  own-point : (k b n : ℕ) (l : List (Piece A)) → Within b n l → rules.All (λ e. rules.point e < n) (rules.own k l)
-  own-point k b n [] w = tt
-  own-point k b n (x ∷ xs) w = let h = within-le (x .end + 1) n xs (w .2) in (omega arith, (omega arith, own-point k (x .end + 1) n xs (w .2)))
-
   -- every event is at a point of the line
   front-point : (n : ℕ) (ls : List (List (Piece A))) → AllWellFormed n ls → {t : ℕ} {left : List (rules.Event A)} {act : List (mathlib.Core.Option.Option A)} {e : rules.Event A} → Front ls t (e ∷ left) act → rules.point e < n
   front-point n ls wf {e = e} f = all-in (λ x. rules.point x < n) e (rules.own (rules.list e) (getD ls (rules.list e) [])) (own-point (rules.list e) 0 n (getD ls (rules.list e) []) (wf-at n (rules.list e) ls wf)) (front-own n ls wf f)

@@ -22,6 +22,7 @@ use Rattle.multiway_sweep.specs.declared.Sizes.{Sizes}
 use Rattle.multiway_sweep.specs.declared.Step.{Step}
 use Rattle.multiway_sweep.specs.declared.Step.the-variants.{Next, Done}
 use Rattle.multiway_sweep.proofs.Front.{front-take, front-move, front-list, front-starts, front-ends}
+use Rattle.multiway_sweep.proofs.Steps.{nothing-left}
 use Rattle.join_sweep.specs.Active.{Slots, slots-of, active}
 use Rattle.join_sweep.specs.Stretches.{after, moment-of, StartsAt, Busy, Holds, Ready, Joining, Opened}
 use Rattle.join_sweep.specs.declared.JoinSweep.{JoinSweep}
@@ -41,6 +42,10 @@ stepped-ready {w = w} {c = c} {a = a} {b = b} {rest = rest} {r = r} s st = recor
     go : (r : Step) → Stepped w c a b rest r → Holds w c b r rest
     go Done st = st
     go (Next x z) st = st .1
+
+-- where no range starts and none is active, no event is left
+pub empty-ready : {P : Type 0} {w : Width P} {c : Columns P} {a : Arrays} {z : Sizes} {rest : List (rules.Event ℤ)} → Sweeping w c a z rest → z .starts ≡ 0 → z .«active_ends» ≡ 0 → Ready w c a Done rest
+empty-ready g s e = record { holds = nothing-left g s e }
 
 module _ {P : Type 0} {w : Width P} {c : Columns P} {ls : List (List Range)} {a : Arrays} {s : Slots} {j : JoinSweep} {t : ℕ} (g : Joining w c ls a s j t) where
   -- what is held, told otherwise

@@ -6,12 +6,13 @@ use join_sweep::LastEnd;
 use join_sweep::Stretch;
 use join_sweep::begin_after;
 use join_sweep::reach;
+use multiway_step_seat::fill;
+use multiway_step_seat::step;
+use multiway_step_seat::take_start;
 use multiway_sweep::Event;
 use multiway_sweep::Range;
 use multiway_sweep::Sizes;
 use multiway_sweep::Step;
-use multiway_sweep_seat::fill;
-use multiway_sweep_seat::step;
 ghost use Prim.Native.Nat.{_*_, _≤_};
 ghost use mathlib.Core.List.{List};
 ghost use Rattle.rules.specs.Piece as rules;
@@ -192,7 +193,7 @@ pub fn next_stretch(
     Stretch::Next(Range { start, end }, opened)
 }
 
-// Lays the sweep of the lists, and holds its first event.
+// Lays the sweep of the lists, and holds its first event, which is a start where there is any.
 pub fn first_event(
     starts: &[Point],
     ends: &[Point],
@@ -216,7 +217,10 @@ pub fn first_event(
         starts: size,
         active_ends: 0,
     };
-    step(
+    if size == 0 {
+        return Step::Done;
+    }
+    take_start(
         starts,
         ends,
         values,

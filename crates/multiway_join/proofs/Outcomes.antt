@@ -21,7 +21,7 @@ use Rattle.rules.specs.declared.Answer.the-variants.{Done, NoRoom}
 use Rattle.rules.specs.declared.Judgement.{Judgement}
 use Rattle.rules.specs.declared.Judgement.the-variants.{Sound, Refused}
 use Rattle.rules.specs.declared.Kind.the-variants.{Join as JoinBy}
-use Rattle.rules.proofs.Columns.{length-ranges}
+use Rattle.rules.proofs.Columns.{lists-length, lists-size}
 use Rattle.rules.proofs.Passes.{Turn, settled-done, settled-not, turn-again}
 use Rattle.rules.proofs.Refusals.{sound-limits, sound-lists}
 use Rattle.rules.proofs.Room.{runs-room, rule-nones, merged-enough, inner-of-none, full-of-none}
@@ -36,22 +36,6 @@ use Rattle.multiway_join.specs.declared.Join.{Join}
 use Rattle.multiway_join.specs.declared.Join.the-variants.{Inner, Full}
 use Rattle.multiway_join.specs.declared.Pending.the-variants.{Held}
 use Rattle.multiway_join.proofs.Columns.{Long, lay-long, lay-put}
-
-module _ {A : Type 0} (s e : ℕ → ℕ) (v : ℕ → A) where
-  size-cut : (i : ℕ) (ns : List ℕ) → size (cut s e v i ns) ≡ total ns
-  size-cut i [] = refl
-  size-cut i (n ∷ ns) = omega (arith, length-ranges s e v i n, size-cut (i + n) ns)
-
-  length-cut : (i : ℕ) (ns : List ℕ) → length (cut s e v i ns) ≡ length ns
-  length-cut i [] = refl
-  length-cut i (n ∷ ns) = omega (arith, length-cut (i + n) ns)
-
-module _ {P : Type 0} (w : Width P) (l : Lent P) where
-  lists-size : size (lists w l) ≡ total (l .counts)
-  lists-size = size-cut (keys w (l .starts)) (keys w (l .ends)) (λ i. getD (l .values) i (pos 0)) 0 (l .counts)
-
-  lists-length : length (lists w l) ≡ length (l .counts)
-  lists-length = length-cut (keys w (l .starts)) (keys w (l .ends)) (λ i. getD (l .values) i (pos 0)) 0 (l .counts)
 
 -- no join over lists admits a point that none has
 nothing-there : (join : Join) (combiner : ℕ) (ls : List (List Range)) → 0 < length ls → rule-of (operation join combiner) (nones ls) ≡ none

@@ -1,4 +1,4 @@
-use form::instant::judge;
+use form_instant::judge;
 use integer::instant::Point;
 use integer::instant::greatest_key;
 use integer::instant::put_key;

@@ -1,4 +1,4 @@
-use form::seat::judge;
+use form_seat::judge;
 use integer::seat::Point;
 use integer::seat::greatest_key;
 use integer::seat::put_key;

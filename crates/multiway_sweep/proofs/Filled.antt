@@ -19,6 +19,7 @@ use Rattle.rules.specs.Piece.{Piece, AllWellFormed}
 use Rattle.rules.specs.Lists.{Width, keys, ranges, cut, total}
 use Rattle.rules.specs.Sweep.{events}
 use Rattle.rules.proofs.At.{le-or-lt}
+use Rattle.rules.proofs.Columns.{cut-length}
 use Rattle.multiway_sweep.specs.Cursors.{fresh, fresh-all}
 use Rattle.multiway_sweep.specs.Stands.{Holds, tally, first-start, at, actives, Stands}
 use Rattle.multiway_sweep.specs.Begins.{Fillable, Filled}
@@ -45,10 +46,6 @@ module _ {A : Type 0} (s e : ℕ → ℕ) (v : ℕ → A) where
   cut-at p i m [] q = refl
   cut-at p zero m (n ∷ ns) q = let z : m ≡ p = omega arith in rw z
   cut-at p (suc i) m (n ∷ ns) q = cut-at (p + n) i m ns (omega arith)
-
-  pub cut-length : (p : ℕ) (ns : List ℕ) → length (cut s e v p ns) ≡ length ns
-  cut-length p [] = refl
-  cut-length p (n ∷ ns) = ap suc (cut-length (p + n) ns)
 
 module _ {A : Type 0} where
   fresh-length : (ls : List (List (Piece A))) → length (fresh-all ls) ≡ length ls

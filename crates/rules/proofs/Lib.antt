@@ -16,3 +16,4 @@ pub mod Refusals
 pub mod Room
 pub mod Passes
 pub mod Sheet
+pub mod Said

@@ -12,7 +12,7 @@ use Rattle.rules.specs.Piece.{Piece, Within, AllWellFormed}
 use Rattle.rules.specs.Sweep.{Event, starts, ends, lex, point, kind, list, before, put, sort, own, listed, events, All, In, Ordered}
 use Rattle.rules.specs.Proving.Below.{size}
 use Rattle.rules.specs.Proving.Moments.{moment, Before, Sorted}
-use Rattle.rules.proofs.At.{le-or-lt}
+use Rattle.rules.proofs.At.{le-or-lt, within-le}
 
 lex-true : (a b : ℕ) (r : Bool) → lex a b r ≡ true → (a < b) ⊎ ((a ≡ b) × (r ≡ true))
 lex-true a b r = go (ltb a b) (eqb a b) refl refl
@@ -90,6 +90,10 @@ module _ {A : Type 0} where
   pub all-map : {P Q : Event A → Type 0} → ((e : Event A) → P e → Q e) → (es : List (Event A)) → All P es → All Q es
   all-map g [] a = tt
   all-map g (e ∷ es) a = (g e (a .0), all-map g es (a .1))
+
+  pub all-both : {P Q R : Event A → Type 0} → ((e : Event A) → P e → Q e → R e) → (es : List (Event A)) → All P es → All Q es → All R es
+  all-both g [] a b = tt
+  all-both g (e ∷ es) a b = (g e (a .0) (b .0), all-both g es (a .1) (b .1))
 
   pub all-append : (P : Event A → Type 0) (es fs : List (Event A)) → All P es → All P fs → All P (es ++ fs)
   all-append P [] fs a b = b
@@ -181,6 +185,10 @@ module _ {A : Type 0} where
   pub own-list : (k : ℕ) (l : List (Piece A)) → All (λ e. list e ≡ k) (own k l)
   own-list k [] = tt
   own-list k (x ∷ xs) = (refl, (refl, own-list k xs))
+
+  pub own-point : (k b n : ℕ) (l : List (Piece A)) → Within b n l → All (λ e. point e < n) (own k l)
+  own-point k b n [] w = tt
+  own-point k b n (x ∷ xs) w = let h = within-le (x .end + 1) n xs (w .2) in (omega arith, (omega arith, own-point k (x .end + 1) n xs (w .2)))
 
   pub own-from : (k b n : ℕ) (l : List (Piece A)) → Within b n l → All (λ e. 2 * b ≤ moment e) (own k l)
   own-from k b n [] w = tt

@@ -4,6 +4,7 @@ pub mod Same
 pub mod Runs
 pub mod Lists
 pub mod Answer
+pub mod Said
 pub mod Sweep
 pub mod TwoWay
 pub mod ManyWay

@@ -1,4 +1,4 @@
-use form::instant::judge;
+use form_instant::judge;
 use integer::instant::Point;
 use rules::Answer;
 use rules::Judgement;

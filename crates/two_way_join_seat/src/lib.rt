@@ -1,4 +1,4 @@
-use form::seat::judge;
+use form_seat::judge;
 use integer::seat::Point;
 use rules::Answer;
 use rules::Judgement;

@@ -1,7 +1,8 @@
 //! The benchmark: the proved library beside the crate, in one process, on the same lists. Each time
 //! is the best of many; the library's include its form check and all its passes: with room for the
 //! most pieces that there can be, and with room for just the pieces that there are, where a join
-//! counts them first. The crate's iterators are drained into the same columns.
+//! counts them first. The crate's iterators are drained into the same columns. What is printed is
+//! what docs/PERFORMANCE.md has: the table, and the least and the greatest ratio of each kind.
 
 use std::hint::black_box;
 use std::time::{Duration, Instant};
@@ -16,46 +17,127 @@ const SPAN: Duration = Duration::from_millis(150);
 /// How ranges are strewn: the widest gap between them, and the longest range.
 const STREWN: [(&str, u64, u64); 2] = [("dense", 3, 6), ("spread", 1000, 10)];
 
+/// One row: the best times, in nanoseconds for each range.
+struct Row {
+    title: &'static str,
+    lists: u64,
+    ranges: usize,
+    strewn: &'static str,
+    by_crate: f64,
+    by_library: f64,
+    /// Of an operation that has a counting pass.
+    counted: Option<f64>,
+}
+
 fn main() {
-    println!("                                                ns for each range            ratio");
     println!(
-        "operation               lists  ranges  strewn   crate  library  counted    library  counted"
+        "| operation | lists | ranges | strewn | crate | library | counted | library / crate | counted / crate |"
     );
-    for operation in [Operation::TwoWayInner, Operation::TwoWayLeft, Operation::TwoWayFull] {
-        rows(operation, &[2], MOST_RANGES);
-    }
-    for operation in [
-        Operation::Events,
-        Operation::Inner(1),
-        Operation::Inner(2),
-        Operation::Full(1),
-        Operation::Full(2),
-    ] {
-        rows(operation, &[2, 4, 16], MOST_RANGES);
-    }
+    println!("|---|---|---|---|---|---|---|---|---|");
+    let two_way = [Operation::TwoWayInner, Operation::TwoWayLeft, Operation::TwoWayFull];
+    let two_way = rows(&two_way, &[2], MOST_RANGES);
+    let listing = rows(&[Operation::Events], &[2, 4, 16], MOST_RANGES);
+    let joins = [Operation::Inner(1), Operation::Inner(2), Operation::Full(1), Operation::Full(2)];
+    let mut joins = rows(&joins, &[2, 4, 16], MOST_RANGES);
     for ranges in [MOST_RANGES / 8, MOST_RANGES / 4, MOST_RANGES / 2] {
-        rows(Operation::Full(1), &[4], ranges);
+        joins.extend(rows(&[Operation::Full(1)], &[4], ranges));
+    }
+    println!();
+    say("Two-way joins", &two_way);
+    say("The event listing", &listing);
+    // Two events in so many nanoseconds, told by the microsecond.
+    let by_library = span(listing.iter().map(|row| 2000.0 / row.by_library));
+    let by_crate = span(listing.iter().map(|row| 2000.0 / row.by_crate));
+    println!("- Million events a second: {by_library} by the library, {by_crate} by the crate.");
+    say("Many-way joins", &joins);
+    let of = |lists, ranges| {
+        joins
+            .iter()
+            .filter(move |row| row.lists == lists && row.ranges == ranges)
+            .collect::<Vec<_>>()
+    };
+    grow("from 2 to 16 lists", &of(2, MOST_RANGES), &of(16, MOST_RANGES));
+    grow("from 256 to 2,048 ranges in 4 lists", &of(4, MOST_RANGES / 8), &of(4, MOST_RANGES));
+}
+
+fn rows(operations: &[Operation], list_counts: &[u64], ranges: usize) -> Vec<Row> {
+    let mut rows = Vec::new();
+    for &operation in operations {
+        for (strewn, gap, length) in STREWN {
+            for &count in list_counts {
+                let row = measured(operation, strewn, &lists(count, ranges, gap, length));
+                println!("{}", line(&row));
+                rows.push(row);
+            }
+        }
+    }
+    rows
+}
+
+fn measured(operation: Operation, strewn: &'static str, lent: &Lent<i64>) -> Row {
+    let ranges = lent.starts.len();
+    let mut roomy = columns(operation, 2 * MOST_RANGES);
+    let by_crate = best(ranges, || blaze_side::drain(operation, lent, &mut roomy));
+    let by_library = best(ranges, || rattle_side::answer(operation, lent, &mut roomy));
+    let written = rattle_side::answer(operation, lent, &mut roomy).expect("in the library");
+    let mut tight = columns(operation, written.number as usize);
+    let counted = (operation != Operation::Events)
+        .then(|| best(ranges, || rattle_side::answer(operation, lent, &mut tight)));
+    let lists = lent.counts.len() as u64;
+    Row { title: title(operation), lists, ranges, strewn, by_crate, by_library, counted }
+}
+
+fn title(operation: Operation) -> &'static str {
+    match operation {
+        Operation::TwoWayInner => "two-way inner",
+        Operation::TwoWayLeft => "two-way left",
+        Operation::TwoWayFull => "two-way full",
+        Operation::Events => "event listing",
+        Operation::Inner(1) => "many-way inner, sum",
+        Operation::Inner(2) => "many-way inner, largest",
+        Operation::Full(1) => "many-way full, sum",
+        Operation::Full(2) => "many-way full, largest",
+        _ => unreachable!("not measured"),
     }
 }
 
-fn rows(operation: Operation, list_counts: &[u64], ranges: usize) {
-    for (name, gap, length) in STREWN {
-        for &count in list_counts {
-            let lent = lists(count, ranges, gap, length);
-            let mut roomy = columns(operation, 2 * MOST_RANGES);
-            let by_crate = best(ranges, || blaze_side::drain(operation, &lent, &mut roomy));
-            let by_library = best(ranges, || rattle_side::answer(operation, &lent, &mut roomy));
-            let written =
-                rattle_side::answer(operation, &lent, &mut roomy).expect("in the library");
-            let mut tight = columns(operation, written.number as usize);
-            let counted = best(ranges, || rattle_side::answer(operation, &lent, &mut tight));
-            let title = format!("{operation:?}");
-            let (ratio, ratio_counted) = (by_library / by_crate, counted / by_crate);
-            println!(
-                "{title:<22} {count:>6} {ranges:>7}  {name:<6} {by_crate:>7.1}  {by_library:>7.1}  {counted:>7.1}    {ratio:>7.2}  {ratio_counted:>7.2}"
-            );
-        }
+fn line(row: &Row) -> String {
+    let Row { title, lists, ranges, strewn, by_crate, by_library, counted } = row;
+    let ratio = by_library / by_crate;
+    let counted = match counted {
+        Some(time) => (format!("{time:.1}"), format!("{:.2}", time / by_crate)),
+        None => Default::default(),
+    };
+    format!(
+        "| {title} | {lists} | {ranges} | {strewn} | {by_crate:.1} | {by_library:.1} | {} | {ratio:.2} | {} |",
+        counted.0, counted.1
+    )
+}
+
+/// The least and the greatest ratio of a kind of operations.
+fn say(kind: &str, rows: &[Row]) {
+    let library = rows.iter().map(|row| row.by_library / row.by_crate);
+    print!("- {kind}: {} of the crate's time", span(library));
+    let mut counted = rows.iter().filter_map(|row| Some(row.counted? / row.by_crate)).peekable();
+    if counted.peek().is_some() {
+        print!(", with a counting pass {}", span(counted));
     }
+    println!(".");
+}
+
+/// How the cost of the many-way joins for each range grows from some rows to their like.
+fn grow(how: &str, from: &[&Row], to: &[&Row]) {
+    let alike = |a: &Row, b: &Row| a.title == b.title && a.strewn == b.strewn;
+    let factor =
+        |row: &&Row| Some(to.iter().find(|other| alike(other, row))?.by_library / row.by_library);
+    let factors = span(from.iter().filter_map(factor));
+    println!("- Many-way joins, {how}: the cost for each range grows {factors} times.");
+}
+
+fn span(numbers: impl Iterator<Item = f64>) -> String {
+    let wider = |(least, greatest): (f64, f64), x: f64| (least.min(x), greatest.max(x));
+    let (least, greatest) = numbers.fold((f64::INFINITY, 0.0), wider);
+    format!("{least:.2} to {greatest:.2}")
 }
 
 /// So many instants' lists that have so many ranges together.

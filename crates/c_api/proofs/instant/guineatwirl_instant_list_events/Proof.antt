@@ -1,6 +1,6 @@
 -- `guineatwirl_instant_list_events` meets its contract. Assumes nothing.
 use borrow.Author.Needs.{needs}
-use Rattle.c_api.proofs.Laws.{said}
+use Rattle.rules.proofs.Said.{said}
 use Rattle.c_api.proofs.instant.guineatwirl_instant_list_events.Statement.{statement}
 use Rattle.c_api.proofs.instant.guineatwirl_instant_list_events.Tie as tie
 

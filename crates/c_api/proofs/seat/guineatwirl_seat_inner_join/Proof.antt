@@ -1,6 +1,6 @@
 -- `guineatwirl_seat_inner_join` meets its contract. Assumes nothing.
 use borrow.Author.Needs.{needs}
-use Rattle.c_api.proofs.Laws.{said}
+use Rattle.rules.proofs.Said.{said}
 use Rattle.c_api.proofs.seat.guineatwirl_seat_inner_join.Statement.{statement}
 use Rattle.c_api.proofs.seat.guineatwirl_seat_inner_join.Tie as tie
 

@@ -7,10 +7,10 @@ use Rattle.event_listing_test.proofs.seat.list.Statement.{statement}
 use Rattle.event_listing_test.proofs.seat.list.Tie as tie
 
 abbrev Inv-loop : tie.InvT-loop
-Inv-loop name starts ends values counts room out-kind out-point out-list out-value zero i₀ i = Unit {0}
+Inv-loop starts ends values counts room out-kind out-point out-list out-value zero i₀ i = Unit {0}
 
 abbrev μ-loop : tie.MeasureT-loop
-μ-loop name starts ends values counts room out-kind out-point out-list out-value zero i₀ i = 6 - i
+μ-loop starts ends values counts room out-kind out-point out-list out-value zero i₀ i = 6 - i
 
 pub list-spec : {M : Type 1} → statement M
 list-spec =

@@ -1,0 +1,79 @@
+use form::Prior;
+use form::Range;
+use form::judge_range;
+use form::judge_shape;
+use integer::seat::Point;
+use integer::seat::key_at;
+use rules::Judgement;
+use rules::Kind;
+ghost use Prim.Native.Nat.{_-_, _≤_};
+ghost use mathlib.Core.Option.{none};
+ghost use lib.ListN.{length};
+ghost use Rattle.rules.specs.Lists.{seats, keys, ranges, cut, total};
+ghost use Rattle.rules.specs.Answer.{judge, judge-list, judge-lists};
+ghost use Rattle.form.specs.Shape.{Long, Found};
+
+// The list at places from `from` up to but not `stop`.
+fn judge_list(
+    starts: &[Point],
+    ends: &[Point],
+    values: &[i32],
+    from: usize,
+    stop: usize,
+) -> Judgement
+    requires { ⌜ (from ≤ stop) × Long (now starts) (now ends) (now values) stop ⌝ }
+    ensures { λ r. ⌜ Found seats (now (ends .entry)) from stop (judge-list none (ranges (keys seats (now (starts .entry))) (keys seats (now (ends .entry))) (λ i. i) from (stop - from))) r ⌝ }
+{
+    let mut prior = Prior::Nothing;
+    let mut i = from;
+    while i < stop {
+        let range = Range {
+            start: key_at(starts, i),
+            end: key_at(ends, i),
+            value: values[i],
+        };
+        let found = judge_range(prior, range, i);
+        let Judgement::Sound = found else {
+            return found;
+        };
+        prior = Prior::End(range.end);
+        i += 1;
+    }
+    Judgement::Sound
+}
+
+// Lists that lie end to end.
+fn judge_lists(starts: &[Point], ends: &[Point], values: &[i32], counts: &[u32]) -> Judgement
+    requires { ⌜ Long (now starts) (now ends) (now values) (total (now counts)) ⌝ }
+    ensures { λ r. ⌜ Found seats (now (ends .entry)) 0 (total (now (counts .entry))) (judge-lists (cut (keys seats (now (starts .entry))) (keys seats (now (ends .entry))) (λ i. i) 0 (now (counts .entry)))) r ⌝ }
+{
+    let mut from: usize = 0;
+    let mut k: usize = 0;
+    while k < counts.len() {
+        let stop = from + counts[k] as usize;
+        let found = judge_list(starts, ends, values, from, stop);
+        let Judgement::Sound = found else {
+            return found;
+        };
+        from = stop;
+        k += 1;
+    }
+    Judgement::Sound
+}
+
+// What is refused before an operation runs, for any columns and any counts.
+pub fn judge(
+    kind: Kind,
+    starts: &[Point],
+    ends: &[Point],
+    values: &[i32],
+    counts: &[u32],
+) -> Judgement
+    ensures { λ r. ⌜ Found seats (now (ends .entry)) 0 (length (now (ends .entry))) (judge seats kind (record { starts = now (starts .entry); ends = now (ends .entry); values = now (values .entry); counts = now (counts .entry) })) r ⌝ }
+{
+    let shape = judge_shape(kind, starts.len(), ends.len(), values.len(), counts);
+    let Judgement::Sound = shape else {
+        return shape;
+    };
+    judge_lists(starts, ends, values, counts)
+}
