@@ -10,7 +10,7 @@ use Rattle.heap.specs.Heap.{held, Whole}
 use Rattle.rules.specs.Piece.{Piece, Within, AllWellFormed}
 use Rattle.rules.specs.Lists.{Width, Lent, cut, total, keys, lists}
 use Rattle.rules.specs.Answer.{front}
-use Rattle.rules.specs.Sweep.{Event, point, kind, list, own, listed, events, All}
+use Rattle.rules.specs.Sweep.{Event, starts, ends, point, kind, list, own, listed, events, All}
 use Rattle.rules.specs.Outcomes.{Listed, event-value, listed-room, lay-listed}
 use Rattle.rules.specs.Refusals.{Agree}
 use Rattle.rules.specs.Proving.Below.{size}
@@ -18,14 +18,18 @@ use Rattle.rules.proofs.At.{within-le}
 use Rattle.rules.proofs.Columns.{lists-length, lists-size}
 use Rattle.rules.proofs.Fronts.{drop-lt, drop-more, front-long, front-more}
 use Rattle.rules.proofs.Sweep.{all-both, all-append, all-right, all-sort, own-list, own-point, events-length}
-use Rattle.multiway_sweep.specs.Steps.{Arrays, columns as swept, arrays, Sweeping}
+use Rattle.multiway_sweep.specs.Steps.{Arrays, columns as swept, arrays, sizes-after, On, Sweeping, Took, Holds}
 use Rattle.multiway_sweep.specs.Begins.{Filled}
 use Rattle.multiway_sweep.specs.declared.Sizes.{Sizes}
-use Rattle.event_listing.specs.Listing.{columns, RowOf, all, Writable, put-row, Put, Listable, Wrote}
+use Rattle.multiway_sweep.specs.declared.Range.{Range as Span}
+use Rattle.multiway_sweep.specs.declared.Step.{Step}
+use Rattle.multiway_sweep.specs.declared.Step.the-variants.{Start, End}
+use Rattle.multiway_sweep.proofs.Sorts.{on-step}
+use Rattle.event_listing.specs.Listing.{columns, RowOf, all, Writable, Put, Listable, Wrote}
 use Rattle.event_listing.specs.declared.Row.{Row}
 
-pub row-put : {P : Type 0} {w : Width P} {n : ℕ} {e : Event ℤ} {r : Row} {c : Listed P} → RowOf e r → {ps : List P} {v : ℤ} → ps ≡ set (c .point) n (w .point (r .key)) → v ≡ r .value → Put w n e c (columns (set (c .kind) n (r .kind)) ps (set (c .list) n (r .list)) (set (c .value) n v))
-row-put o p v = record { is = rw (p, v, o .kind, o .key, o .list, o .value) }
+pub row-put : {P : Type 0} {w : Width P} {n : ℕ} {r : Row} {c : Listed P} {ps : List P} {v : ℤ} → ps ≡ set (c .point) n (w .point (r .key)) → v ≡ r .value → Put w n r c (columns (set (c .kind) n (r .kind)) ps (set (c .list) n (r .list)) (set (c .value) n v))
+row-put p v = record { is = rw (p, v) }
 
 module _ {A : Type 0} where
   -- an event's point is one of n, and its list one of m
@@ -57,6 +61,18 @@ pub record Written {P : Type 0} (w : Width P) (l : Lent P) (c d : Listed P) (a :
   pub sweeping : Sweeping w (swept (l .starts) (l .ends) (l .values)) a z (drop n (all w l))
   pub laid : d ≡ lay-listed w (take n (all w l)) c
 
+-- after n events a step took the next one, whose row is r
+pub record Taken {P : Type 0} (w : Width P) (l : Lent P) (b : Arrays) (n : ℕ) (t : Step) (r : Row) : Type 0 where
+  pub holds : Holds w (swept (l .starts) (l .ends) (l .values)) b t (drop n (all w l))
+  pub row : On (λ e. RowOf e r) ⊥ t
+
+module _ {P : Type 0} {w : Width P} {l : Lent P} {b : Arrays} {n : ℕ} {t : Step} {r q : Row} {y : Sizes} where
+  pub start-taken : {x : Span} {list : ℕ} {u v : ℤ} → Took w (swept (l .starts) (l .ends) (l .values)) b (starts (x .start) list v) y (drop n (all w l)) → t ≡ Start x list v y → r ≡ q → u ≡ v → RowOf (starts (x .start) list u) q → Taken w l b n t r
+  start-taken s e k m o = rw (e, k) (record { holds = s; row = rw m at o })
+
+  pub end-taken : {key list : ℕ} → Took w (swept (l .starts) (l .ends) (l .values)) b (ends key list) y (drop n (all w l)) → t ≡ End key list y → r ≡ q → RowOf (ends key list) q → Taken w l b n t r
+  end-taken s e k o = rw (e, k) (record { holds = s; row = o })
+
 module _ {P : Type 0} {w : Width P} {l : Lent P} {c : Listed P} where
   pub written-none : Listable w l c → {next stops start-keys start-lists end-keys end-lists : List ℕ} {size : ℕ} → Filled w (l .starts) (l .counts) next stops start-keys start-lists size → Whole (held end-keys end-lists) → Written w l c c (arrays next stops start-keys start-lists end-keys end-lists) (record { starts = size; «active_ends» = 0 }) 0
   written-none g f whole = record { listable = g; sweeping = f _ _ whole (l .ends) (l .values) (sym (g .agree .values-long)) (g .agree .ends-long ∙ sym (g .agree .values-long)) (g .formed); laid = refl }
@@ -77,29 +93,41 @@ module _ {P : Type 0} {w : Width P} {l : Lent P} {c : Listed P} where
     written-last e = record { is = f .laid ∙ ap (λ es. lay-listed w es c) (take-all n (all w l) (omega (arith, sym (length-drop n (all w l)) ∙ ap length e))) }
 
     -- an event is next, and a sweep stands before what is left then
-    module _ {e : Event ℤ} {b : Arrays} {y : Sizes} (s : (rest : List (Event ℤ)) × (drop n (all w l) ≡ e ∷ rest) × Sweeping w (swept (l .starts) (l .ends) (l .values)) b y rest) where
-      pub written-lt : n < length (all w l)
+    module _ {e : Event ℤ} {b : Arrays} {y : Sizes} (s : Took w (swept (l .starts) (l .ends) (l .values)) b e y (drop n (all w l))) where
+      written-lt : n < length (all w l)
       written-lt = drop-lt (all w l) n e (s .0) (s .1)
-
-      pub written-few : n < 4096
-      written-few = omega (arith, written-lt, events-count w l (f .listable .agree), f .listable .ranges-few)
 
       small : Small (w .points) (length (lists w l)) e
       small = all-right (Small (w .points) (length (lists w l))) (take n (all w l)) (e ∷ s .0) (rw (sym (s .1), take-append-drop n (all w l)) (events-small (w .points) (lists w l) (f .listable .formed))) .0
 
-      pub written-row : Writable w n e d
-      written-row = record {
-        room = let h = written-long in omega (arith, written-lt, room);
-        point = small .0;
-        list = omega (arith, small .1, lists-length w l, f .listable .lists-few);
-      }
+      pub written-list : list e < 256
+      written-list = omega (arith, small .1, lists-length w l, f .listable .lists-few)
 
-      pub written-more : {d' : Listed P} → Put w n e d d' → Written w l c d' b y (n + 1)
-      written-more p = record {
+      written-row : {r : Row} → RowOf e r → Writable w n r d
+      written-row o = record { room = let h = written-long in omega (arith, written-lt, room); point = omega (arith, small .0, o .key) }
+
+      written-more : {r : Row} → RowOf e r → {d' : Listed P} → Put w n r d d' → Written w l c d' b y (n + 1)
+      written-more o p = record {
         listable = f .listable;
         sweeping = rw (drop-more (all w l) n e (s .0) (s .1)) (s .2);
-        laid = let h = room in p .is ∙ ap (put-row w n e) (f .laid) ∙ (λ i. columns (more kind (c .kind) (omega arith) i) (more (λ x. w .point (point x)) (c .point) (omega arith) i) (more list (c .list) (omega arith) i) (more event-value (c .value) (omega arith) i));
+        laid = let h = room in rw (o .kind, o .key, o .list, o .value, f .laid) at (p .is) ∙ (λ i. columns (more kind (c .kind) (omega arith) i) (more (λ x. w .point (point x)) (c .point) (omega arith) i) (more list (c .list) (omega arith) i) (more event-value (c .value) (omega arith) i));
       }
         where
           more : {A : Type 0} (f : Event ℤ → A) (old : List A) → length (all w l) ≤ length old → set (front f (take n (all w l)) old) n (f e) ≡ front f (take (n + 1) (all w l)) old
           more f old h = front-more f (all w l) n e (s .0) old (s .1) h
+
+    module _ {b : Arrays} {t : Step} {r : Row} (s : Taken w l b n t r) where
+      abbrev with-event : {C : Type 0} → ((e : Event ℤ) → Took w (swept (l .starts) (l .ends) (l .values)) b e (sizes-after t z) (drop n (all w l)) → RowOf e r → C) → C
+      with-event = on-step w (swept (l .starts) (l .ends) (l .values)) b (λ e. RowOf e r) z t (s .holds) (s .row)
+
+      pub taken-lt : n < length (all w l)
+      taken-lt = with-event (λ e u p. written-lt u)
+
+      pub taken-few : n < 4096
+      taken-few = omega (arith, taken-lt, events-count w l (f .listable .agree), f .listable .ranges-few)
+
+      pub taken-row : Writable w n r d
+      taken-row = with-event (λ e u p. written-row u p)
+
+      pub taken-more : {d' : Listed P} → Put w n r d d' → Written w l c d' b (sizes-after t z) (n + 1)
+      taken-more k = with-event (λ e u p. written-more u p k)

@@ -27,18 +27,14 @@ module _ {P : Type 0} (w : Width P) where
   abbrev pub all : Lent P → List (Event ℤ)
   all l = events (lists w l)
 
-  -- there is a place for an event, whose point and list can be written
-  pub record Writable (n : ℕ) (e : Event ℤ) (c : Listed P) : Type 0 where
+  -- there is a place for a row, whose point can be written
+  pub record Writable (n : ℕ) (r : Row) (c : Listed P) : Type 0 where
     pub room : n < listed-room w c
-    pub point : point e < w .points
-    pub list : list e < 256
+    pub point : r .key < w .points
 
-  -- the columns with an event at place n
-  abbrev pub put-row : ℕ → Event ℤ → Listed P → Listed P
-  put-row n e c = columns (set (c .kind) n (kind e)) (set (c .point) n (w .point (point e))) (set (c .list) n (list e)) (set (c .value) n (event-value e))
-
-  pub record Put (n : ℕ) (e : Event ℤ) (c d : Listed P) : Type 0 where
-    pub is : d ≡ put-row n e c
+  -- the columns with a row at place n
+  pub record Put (n : ℕ) (r : Row) (c d : Listed P) : Type 0 where
+    pub is : d ≡ columns (set (c .kind) n (r .kind)) (set (c .point) n (w .point (r .key))) (set (c .list) n (r .list)) (set (c .value) n (r .value))
 
   -- lists that are judged sound, and room for their events
   pub record Listable (l : Lent P) (c : Listed P) : Type 0 where

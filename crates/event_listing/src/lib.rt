@@ -1,10 +1,9 @@
 // The event listing: every start and end of the lists' ranges, in the order of the sweep.
 
-use multiway_sweep::Event;
+use multiway_sweep::Range;
 ghost use Prim.Native.Nat.{_<_, min};
 ghost use mathlib.Core.Path.{_≡_};
-ghost use Rattle.rules.specs.Sweep.{list};
-ghost use Rattle.multiway_sweep.specs.Steps.{event};
+ghost use Rattle.rules.specs.Sweep.{starts, ends};
 ghost use Rattle.event_listing.specs.Listing.{RowOf};
 
 // An event as the columns have it, its point told by its key.
@@ -15,23 +14,27 @@ pub struct Row {
     pub value: i32,
 }
 
-pub fn row_of(found: Event) -> Row
-    requires { ⌜ list (event found) < 256 ⌝ }
-    ensures { λ r. ⌜ RowOf (event found) r ⌝ }
+pub fn start_row(range: Range, list: usize, value: i32) -> Row
+    requires { ⌜ list < 256 ⌝ }
+    ensures { λ r. ⌜ RowOf (starts (range .start) list value) r ⌝ }
 {
-    match found {
-        Event::Start(range, list, value) => Row {
-            kind: 0,
-            key: range.start,
-            list: list as u8,
-            value,
-        },
-        Event::End(key, list) => Row {
-            kind: 1,
-            key,
-            list: list as u8,
-            value: 0,
-        },
+    Row {
+        kind: 0,
+        key: range.start,
+        list: list as u8,
+        value,
+    }
+}
+
+pub fn end_row(key: u64, list: usize) -> Row
+    requires { ⌜ list < 256 ⌝ }
+    ensures { λ r. ⌜ RowOf (ends key list) r ⌝ }
+{
+    Row {
+        kind: 1,
+        key,
+        list: list as u8,
+        value: 0,
     }
 }
 

@@ -1,13 +1,15 @@
-use event_listing::row_of;
+use event_listing::Row;
+use event_listing::end_row;
 use event_listing::shortest;
+use event_listing::start_row;
 use form_instant::judge;
 use integer::instant::Point;
 use integer::instant::put_key;
 use multiway_step_instant::fill;
 use multiway_step_instant::step;
-use multiway_sweep::Event;
 use multiway_sweep::Sizes;
 use multiway_sweep::Step;
+use multiway_sweep::sizes_after;
 use rules::Answer;
 use rules::Judgement;
 use rules::Kind;
@@ -15,25 +17,23 @@ ghost use mathlib.Core.Path.{_≡_};
 ghost use Rattle.rules.specs.Lists.{instants, lent};
 ghost use Rattle.rules.specs.Outcomes.{listing};
 ghost use Rattle.rules.specs.Answer.{leaves};
-ghost use Rattle.multiway_sweep.specs.Steps.{event};
 ghost use Rattle.event_listing.specs.Listing.{columns, Writable, Put, Listable, Wrote};
 
-// Writes an event at a place of the columns.
+// Writes a row at a place of the columns.
 fn put(
-    found: Event,
+    row: Row,
     place: usize,
     out_kind: &mut [u8],
     out_point: &mut [Point],
     out_list: &mut [u8],
     out_value: &mut [i32],
 )
-    requires { ⌜ Writable instants place (event found) (columns (now «out_kind») (now «out_point») (now «out_list») (now «out_value»)) ⌝ }
+    requires { ⌜ Writable instants place row (columns (now «out_kind») (now «out_point») (now «out_list») (now «out_value»)) ⌝ }
     ensures { λ _.
         let c = columns (now («out_kind» .entry)) (now («out_point» .entry)) (now («out_list» .entry)) (now («out_value» .entry)) in
         let d = columns (now («out_kind» .exit)) (now («out_point» .exit)) (now («out_list» .exit)) (now («out_value» .exit)) in
-        ⌜ Put instants place (event found) c d ⌝ }
+        ⌜ Put instants place row c d ⌝ }
 {
-    let row = row_of(found);
     let value = row.value;
     out_kind[place] = row.kind;
     put_key(out_point, place, row.key);
@@ -90,11 +90,13 @@ fn write_events(
             &mut end_lists,
             sizes,
         );
-        let Step::Next(found, after) = taken else {
-            return;
+        let row = match taken {
+            Step::Start(range, list, value, _) => start_row(range, list, value),
+            Step::End(key, list, _) => end_row(key, list),
+            Step::Done => return,
         };
-        put(found, place, out_kind, out_point, out_list, out_value);
-        sizes = after;
+        put(row, place, out_kind, out_point, out_list, out_value);
+        sizes = sizes_after(taken, sizes);
         place += 1;
     }
 }

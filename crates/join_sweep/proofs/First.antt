@@ -14,21 +14,20 @@ use Rattle.rules.specs.Sweep as rules
 use Rattle.rules.specs.Proving.Below.{nones}
 use Rattle.rules.proofs.At.{within-le}
 use Rattle.rules.proofs.Sweep.{kind-small, all-in, own-point}
-use Rattle.multiway_sweep.specs.Front.{Front}
-use Rattle.multiway_sweep.specs.Steps.{Columns, Arrays, event}
-use Rattle.multiway_sweep.specs.declared.Event.{Event}
-use Rattle.multiway_sweep.specs.declared.Event.the-variants.{Start, End}
+use Rattle.multiway_sweep.specs.Front.{edge, Front}
+use Rattle.multiway_sweep.specs.Steps.{Columns, Arrays, NoStart, Took, Holds}
+use Rattle.multiway_sweep.specs.declared.Sizes.{Sizes}
 use Rattle.multiway_sweep.specs.declared.Step.{Step}
-use Rattle.multiway_sweep.specs.declared.Step.the-variants.{Next, Done}
+use Rattle.multiway_sweep.specs.declared.Step.the-variants.{Start, End, Done}
 use Rattle.multiway_sweep.proofs.Front.{front-column, front-last, front-ends, front-own, wf-at}
 use Rattle.join_sweep.specs.Active.{Slots, active}
-use Rattle.join_sweep.specs.Stretches.{after, Busy, NoStart, StartsAt, Begun, BegunAfter, Ahead, Reached, Holds, Joining, Opened, Stretches}
+use Rattle.join_sweep.specs.Stretches.{after, Busy, StartsAt, Begun, BegunAfter, Ahead, Reached, Joining, Opened, Stretches}
 use Rattle.join_sweep.specs.declared.Begin.{Begin}
 use Rattle.join_sweep.specs.declared.Begin.the-variants.{At as BeginAt, Nowhere}
 use Rattle.join_sweep.specs.declared.JoinSweep.{JoinSweep}
 use Rattle.join_sweep.specs.declared.LastEnd.{LastEnd}
 use Rattle.join_sweep.proofs.Active.{active-length, count-none, nones-count}
-use Rattle.join_sweep.proofs.Turns.{moved}
+use Rattle.join_sweep.proofs.Turns.{Later, moved}
 
 module _ {A : Type 0} where
   -- every event is at a point of the line
@@ -53,8 +52,8 @@ module _ {P : Type 0} {w : Width P} {c : Columns P} {ls : List (List Range)} {a 
     where
       go : (r : Step) → NoStart r → Holds w c a r (g .left) → column ls p ≡ nones ls
       go Done n e = front-column (w .points) ls (g .formed) (rw e at (g .front)) p (omega arith) tt ∙ idle (q .0)
-      go (Next (Start x list v) z) n e = absurd n
-      go (Next (End at list) z) n e = absurd (idle-end (q .0) (rw (e .1) at (g .front)))
+      go (Start x list v z) n e = absurd n
+      go (End at list z) n e = absurd (idle-end (q .0) (rw (e .1) at (g .front)))
 
   -- a stretch begins at a point
   pub record Begins (start : ℕ) : Type 0 where
@@ -69,8 +68,8 @@ module _ {P : Type 0} {w : Width P} {c : Columns P} {ls : List (List Range)} {a 
     where
       go : (r : Step) → j .held ≡ r → StartsAt start r → Holds w c a r (g .left) → Begins start
       go Done h n e = absurd n
-      go (Next (End at list) z) h n e = absurd n
-      go (Next (Start x list v) z) h n e =
+      go (End at list z) h n e = absurd n
+      go (Start x list v z) h n e =
           let f = rw (e .1) at (g .front) in
           let l : k ≤ start = omega (arith, f .high .0) in
           record {
@@ -99,23 +98,28 @@ module _ {P : Type 0} {w : Width P} {c : Columns P} {ls : List (List Range)} {a 
       go Done e =
           let q = front-last (w .points) ls (o .joining .formed) (rw e at (o .joining .front)) in
           absurd (omega (arith, o .busy, o .joining .counted .count, ap (λ l. length (present l)) q, nones-count ls))
-      go (Next x z) e = omega (arith, rw (e .1) at (o .taken), kind-small (event x))
+      go (Start y list v z) e = omega (arith, rw (e .1) at (o .taken))
+      go (End at list z) e = omega (arith, rw (e .1) at (o .taken))
 
   -- up to the held event
   module _ {k end : ℕ} (later : k ≤ start) (gap : (p : ℕ) → k ≤ p → p < start → column ls p ≡ nones ls) where
+    upto : {x : rules.Event ℤ} {z : Sizes} → Took w c a x z (o .joining .left) → start < edge x → end + 1 ≡ edge x → Later (2 * end + 1) (j .held) → Stretches w c ls a s j k (record { start = start; end = end })
+    upto {x} e l r m =
+        let f = rw (e .1) at (o .joining .front) in
+        let n = kind-small x in
+        record {
+          later = later;
+          order = omega arith;
+          below = omega (arith, front-point (w .points) ls (o .joining .formed) f);
+          gap = gap;
+          on = λ p i u. front-column (w .points) ls (o .joining .formed) f p (omega arith) (omega arith);
+          joining = moved (o .joining) (2 * end + 1) (omega arith) m;
+        }
+
     pub stretch : Reached (j .held) end → Stretches w c ls a s j k (record { start = start; end = end })
     stretch r = go (j .held) refl (o .joining .holds) ahead r
       where
         go : (h : Step) → j .held ≡ h → Holds w c a h (o .joining .left) → Ahead start h → Reached h end → Stretches w c ls a s j k (record { start = start; end = end })
+        go (Start y list v z) q e l r = upto e l r (rw q (omega arith))
+        go (End at list z) q e l r = upto e l r (rw q (omega arith))
         go Done q e l r = absurd l
-        go (Next x z) q e l r =
-            let f = rw (e .1) at (o .joining .front) in
-            let m = kind-small (event x) in
-            record {
-              later = later;
-              order = omega arith;
-              below = omega (arith, front-point (w .points) ls (o .joining .formed) f);
-              gap = gap;
-              on = λ p i u. front-column (w .points) ls (o .joining .formed) f p (omega arith) (omega arith);
-              joining = moved (o .joining) (2 * end + 1) (omega arith) (rw q (omega arith));
-            }

@@ -4,13 +4,11 @@ use mathlib.Core.Path.{_≡_, refl, ap}
 use mathlib.Core.Logic.{inl, inr}
 use native.Mathlib.Omega.{arith}
 use lib.IntN.{ℤ}
-use Rattle.multiway_sweep.specs.declared.Event.{Event}
-use Rattle.multiway_sweep.specs.declared.Event.the-variants.{Start, End}
 use Rattle.multiway_sweep.specs.declared.Range.{Range as Span}
 use Rattle.multiway_sweep.specs.declared.Sizes.{Sizes}
 use Rattle.multiway_sweep.specs.declared.Step.{Step}
-use Rattle.multiway_sweep.specs.declared.Step.the-variants.{Next, Done}
-use Rattle.join_sweep.specs.Stretches.{StartsAt, NoStart, after, Begun, BegunAfter, Ahead, Reached}
+use Rattle.multiway_sweep.specs.declared.Step.the-variants.{Start, End, Done}
+use Rattle.join_sweep.specs.Stretches.{StartsAt, after, Begun, BegunAfter, Ahead, Reached}
 use Rattle.join_sweep.specs.declared.Begin.{Begin}
 use Rattle.join_sweep.specs.declared.Begin.the-variants.{At as BeginAt, Nowhere}
 use Rattle.join_sweep.specs.declared.JoinSweep.{JoinSweep}
@@ -18,29 +16,21 @@ use Rattle.join_sweep.specs.declared.LastEnd.{LastEnd}
 use Rattle.join_sweep.specs.declared.LastEnd.the-variants.{Nothing, At}
 
 module _ {r : Step} where
-  pub nothing-held : r ≡ Done → NoStart r
-  nothing-held h = rw h tt
-
   pub nothing-ahead : (s : ℕ) → r ≡ Done → Ahead s r → ⊥
   nothing-ahead s h a = rw h at a
 
-  module _ {x : Event} {z : Sizes} (h : r ≡ Next x z) where
-    module _ {at list : ℕ} (q : x ≡ End at list) where
-      pub end-held : NoStart r
-      end-held = rw (h, q) tt
+  pub end-reached : {at list : ℕ} {z : Sizes} → r ≡ End at list z → Reached r at
+  end-reached h = rw h refl
 
-      pub end-reached : Reached r at
-      end-reached = rw (h, q) refl
+  module _ {y : Span} {list : ℕ} {v : ℤ} {z : Sizes} (h : r ≡ Start y list v z) where
+    pub start-held : StartsAt (y .start) r
+    start-held = rw h refl
 
-    module _ {y : Span} {list : ℕ} {v : ℤ} (q : x ≡ Start y list v) where
-      pub start-held : StartsAt (y .start) r
-      start-held = rw (h, q) refl
+    pub start-ahead : (s : ℕ) → Ahead s r → 1 ≤ y .start
+    start-ahead s a = omega (arith, rw h at a)
 
-      pub start-ahead : (s : ℕ) → Ahead s r → 1 ≤ y .start
-      start-ahead s a = omega (arith, rw (h, q) at a)
-
-      pub start-reached : (s : ℕ) → Ahead s r → Reached r (y .start - 1)
-      start-reached s a = let l = start-ahead s a in rw (h, q) (omega arith)
+    pub start-reached : (s : ℕ) → Ahead s r → Reached r (y .start - 1)
+    start-reached s a = let l = start-ahead s a in rw h (omega arith)
 
 module _ (j : JoinSweep) (greatest : ℕ) {last : LastEnd} where
   pub begun-first : last ≡ Nothing → (r : Begin) → Begun j 0 r → BegunAfter j last greatest r

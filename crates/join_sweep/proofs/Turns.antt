@@ -1,6 +1,6 @@
 -- What a join keeps as it takes the held event, and as it lets time go on. Assumes nothing.
 use Prim.Native.Nat.{ℕ, _+_, _*_, _-_, _≤_, _<_}
-use mathlib.Core.Path.{_≡_, sym, ap, _∙_, subst}
+use mathlib.Core.Path.{_≡_, refl, sym, ap, _∙_, subst}
 use mathlib.Core.Logic.{inl, inr}
 use mathlib.Core.Bool.{true, false}
 use mathlib.Core.Option.{none, some}
@@ -14,17 +14,14 @@ use Rattle.rules.specs.ManyWay.{present}
 use Rattle.rules.specs.Sweep as rules
 use Rattle.rules.specs.Proving.Moments.{moment}
 use Rattle.multiway_sweep.specs.Front.{apply, Front, Next as Due}
-use Rattle.multiway_sweep.specs.Steps.{Columns, Arrays, event, Sweeping, Stepped}
-use Rattle.multiway_sweep.specs.declared.Event.{Event}
-use Rattle.multiway_sweep.specs.declared.Event.the-variants.{Start, End}
+use Rattle.multiway_sweep.specs.Steps.{Columns, Arrays, NoStart, NoEnd, On, Sweeping, Took, Holds, Stepped}
 use Rattle.multiway_sweep.specs.declared.Range.{Range as Span}
 use Rattle.multiway_sweep.specs.declared.Sizes.{Sizes}
 use Rattle.multiway_sweep.specs.declared.Step.{Step}
-use Rattle.multiway_sweep.specs.declared.Step.the-variants.{Next, Done}
+use Rattle.multiway_sweep.specs.declared.Step.the-variants.{Start, End, Done}
 use Rattle.multiway_sweep.proofs.Front.{front-take, front-move, front-list, front-starts, front-ends}
-use Rattle.multiway_sweep.proofs.Steps.{nothing-left}
 use Rattle.join_sweep.specs.Active.{Slots, slots-of, active}
-use Rattle.join_sweep.specs.Stretches.{after, moment-of, StartsAt, Busy, Holds, Ready, Joining, Opened}
+use Rattle.join_sweep.specs.Stretches.{after, moment-of, StartsAt, Busy, Ready, Joining, Opened}
 use Rattle.join_sweep.specs.declared.JoinSweep.{JoinSweep}
 use Rattle.join_sweep.specs.declared.LastEnd.{LastEnd}
 use Rattle.join_sweep.specs.declared.LastEnd.the-variants.{Nothing, At}
@@ -32,20 +29,11 @@ use Rattle.join_sweep.proofs.Active.{active-length, absent-set, present
 
 -- what is held happens at u or later
 abbrev pub Later : ℕ → Step → Type 0
-Later u Done = Unit {0}
-Later u (Next x z) = u ≤ moment (event x)
+Later u = On (λ e. u ≤ moment e) (Unit {0})
 
 -- what a step of the sweep answers is held
 pub stepped-ready : {P : Type 0} {w : Width P} {c : Columns P} {a b : Arrays} {z : Sizes} {rest : List (rules.Event ℤ)} {r : Step} → Sweeping w c a z rest → ((rest : List (rules.Event ℤ)) → Sweeping w c a z rest → Stepped w c a b rest r) → Ready w c b r rest
-stepped-ready {w = w} {c = c} {a = a} {b = b} {rest = rest} {r = r} s st = record { holds = go r (st rest s) }
-  where
-    go : (r : Step) → Stepped w c a b rest r → Holds w c b r rest
-    go Done st = st
-    go (Next x z) st = st .1
-
--- where no range starts and none is active, no event is left
-pub empty-ready : {P : Type 0} {w : Width P} {c : Columns P} {a : Arrays} {z : Sizes} {rest : List (rules.Event ℤ)} → Sweeping w c a z rest → z .starts ≡ 0 → z .«active_ends» ≡ 0 → Ready w c a Done rest
-empty-ready g s e = record { holds = nothing-left g s e }
+stepped-ready {rest = rest} s st = record { holds = st rest s .1 }
 
 module _ {P : Type 0} {w : Width P} {c : Columns P} {ls : List (List Range)} {a : Arrays} {s : Slots} {j : JoinSweep} {t : ℕ} (g : Joining w c ls a s j t) where
   -- what is held, told otherwise
@@ -56,8 +44,9 @@ module _ {P : Type 0} {w : Width P} {c : Columns P} {ls : List (List Range)} {a 
   later-left u = go (j .held) (g .holds)
     where
       go : (r : Step) → Holds w c a r (g .left) → Later u r → Due u (g .left)
+      go (Start y list v z) e l = rw (e .1) l
+      go (End at list z) e l = rw (e .1) l
       go Done e l = rw e tt
-      go (Next x z) e l = rw (e .1) l
 
   -- time goes on, up to the held event
   pub moved : (u : ℕ) → t ≤ u → Later u (j .held) → Joining w c ls a s j u
@@ -72,26 +61,24 @@ module _ {P : Type 0} {w : Width P} {c : Columns P} {ls : List (List Range)} {a 
         holds = g .holds;
       }
 
-  module _ {x : Event} {z : Sizes} (h : j .held ≡ Next x z) where
-    holding : Holds w c a (Next x z) (g .left)
-    holding = rw h at (g .holds)
-
-    front-held : Front ls t (event x ∷ holding .0) (active (length ls) s)
+  -- the event x is held
+  module _ {x : rules.Event ℤ} {z : Sizes} (holding : Took w c a x z (g .left)) where
+    front-held : Front ls t (x ∷ holding .0) (active (length ls) s)
     front-held = rw (holding .1) at (g .front)
 
-    -- the sweep stands past the held event
-    pub sweeping : (rest : List (rules.Event ℤ)) × Sweeping w c a z rest
-    sweeping = (holding .0, holding .2)
+    -- the sweep stands past it
+    past : (rest : List (rules.Event ℤ)) × Sweeping w c a z rest
+    past = (holding .0, holding .2)
 
-    pub due : t ≤ moment (event x)
+    due : t ≤ moment x
     due = front-held .high .0
 
-    pub list-few : rules.list (event x) < 16
+    list-few : rules.list x < 16
     list-few = omega (arith, front-list (w .points) ls (g .formed) front-held, g .counted .few)
 
-    -- the held event is taken, and the next one is held
-    module _ {b : Arrays} {r : Step} (st : (rest : List (rules.Event ℤ)) → Sweeping w c a z rest → Stepped w c a b rest r) (e : moment (event x) ≡ t) where
-      taken : (u : Slots) (n : ℕ) → length (u .current) ≡ 16 → length (u .present) ≡ 16 → active (length ls) u ≡ apply (event x) (active (length ls) s) → n ≡ length (present (apply (event x) (active (length ls) s))) → Joining w c ls b u (record { held = r; «active_count» = n }) t
+    -- it is taken, and the next one is held
+    module _ {b : Arrays} {r : Step} (st : (rest : List (rules.Event ℤ)) → Sweeping w c a z rest → Stepped w c a b rest r) (e : moment x ≡ t) where
+      taken : (u : Slots) (n : ℕ) → length (u .current) ≡ 16 → length (u .present) ≡ 16 → active (length ls) u ≡ apply x (active (length ls) s) → n ≡ length (present (apply x (active (length ls) s))) → Joining w c ls b u (record { held = r; «active_count» = n }) t
       taken u n cl pl q k =
           record {
             formed = g .formed;
@@ -99,17 +86,23 @@ module _ {P : Type 0} {w : Width P} {c : Columns P} {ls : List (List Range)} {a 
             present-long = pl;
             counted = record { few = g .counted .few; count = rw q k };
             left = holding .0;
-            front = rw q (subst (λ m. Front ls m (holding .0) (apply (event x) (active (length ls) s))) e (front-take (w .points) ls (g .formed) front-held));
+            front = rw q (subst (λ m. Front ls m (holding .0) (apply x (active (length ls) s))) e (front-take (w .points) ls (g .formed) front-held));
             holds = stepped-ready {b = b} {r = r} (holding .2) st .holds;
           }
 
   -- a range ends: its list has nothing from there on
-  module _ {x : Event} {z : Sizes} (h : j .held ≡ Next x z) {at list : ℕ} (q : x ≡ End at list) where
-    end-held : j .held ≡ Next (End at list) z
-    end-held = h ∙ ap (λ y. Next y z) q
+  module _ {at list : ℕ} {z : Sizes} (h : j .held ≡ End at list z) where
+    end-held : Took w c a (rules.ends at list) z (g .left)
+    end-held = rw h at (g .holds)
 
     fewer : j .«active_count» ≡ length (present (set (active (length ls) s) list none)) + 1
     fewer = let f = front-ends (w .points) ls (g .formed) (front-held end-held) in g .counted .count ∙ count-less (active (length ls) s) list (f .0) (f .1)
+
+    pub end-past : (rest : List (rules.Event ℤ)) × Sweeping w c a z rest
+    end-past = past end-held
+
+    pub end-due : t ≤ 2 * at + 1
+    end-due = due end-held
 
     pub end-list : list < 16
     end-list = list-few end-held
@@ -122,15 +115,21 @@ module _ {P : Type 0} {w : Width P} {c : Columns P} {ls : List (List Range)} {a 
         taken end-held st (sym e) _ _ (g .current-long) (length-set (s .present) list false ∙ g .present-long) (absent-set s (length ls) list (omega (arith, end-list, g .present-long))) (omega (arith, fewer))
 
   -- a range starts: its list has its value from there on
-  module _ {x : Event} {z : Sizes} (h : j .held ≡ Next x z) {y : Span} {list : ℕ} {v : ℤ} (q : x ≡ Start y list v) where
-    start-held : j .held ≡ Next (Start y list v) z
-    start-held = h ∙ ap (λ e. Next e z) q
+  module _ {y : Span} {list : ℕ} {v : ℤ} {z : Sizes} (h : j .held ≡ Start y list v z) where
+    start-held : Took w c a (rules.starts (y .start) list v) z (g .left)
+    start-held = rw h at (g .holds)
 
     more : j .«active_count» + 1 ≡ length (present (set (active (length ls) s) list (some v)))
     more =
         let l = front-list (w .points) ls (g .formed) (front-held start-held) in
         let m = active-length (length ls) s in
         omega (arith, g .counted .count, count-more (active (length ls) s) list v (omega arith) (front-starts (w .points) ls (g .formed) (front-held start-held)))
+
+    pub start-past : (rest : List (rules.Event ℤ)) × Sweeping w c a z rest
+    start-past = past start-held
+
+    pub start-due : t ≤ 2 * y .start
+    start-due = omega (arith, due start-held)
 
     -- its list is one of sixteen, which are not all active
     pub start-few : (list < 16) × (j .«active_count» < 16)
@@ -157,15 +156,16 @@ module _ {P : Type 0} {w : Width P} {c : Columns P} {ls : List (List Range)} {a 
     later : after last ≡ e + 1
     later = ap after k
 
-    pub closed-over : j .held ≡ Done → Closed (j .held)
-    closed-over h = moved g (2 * after last) (omega (arith, later)) (rw h tt)
+    pub closed-else : NoEnd (j .held) → Closed (j .held)
+    closed-else n = moved g (2 * after last) (omega (arith, later)) (go (j .held) refl n)
+      where
+        go : (r : Step) → j .held ≡ r → NoEnd r → Later (2 * after last) r
+        go (Start y list v z) h n = omega (arith, later, start-due g h)
+        go (End at list z) h n = absurd n
+        go Done h n = tt
 
-    module _ {x : Event} {z : Sizes} (h : j .held ≡ Next x z) where
-      pub closed-start : {y : Span} {list : ℕ} {v : ℤ} → x ≡ Start y list v → Closed (Next x z)
-      closed-start q = moved (as-held g h) (2 * after last) (omega (arith, later)) (rw q (omega (arith, later, rw q at (due g h))))
-
-      pub closed-end : {at list : ℕ} → x ≡ End at list → (at ≡ e → ⊥) → Closed (Next x z)
-      closed-end q ne = moved (as-held g h) (2 * after last) (omega (arith, later)) (rw q (omega (arith, later, ne, rw q at (due g h))))
+    pub closed-end : {at list : ℕ} {z : Sizes} → j .held ≡ End at list z → (at ≡ e → ⊥) → Closed (End at list z)
+    closed-end h ne = moved (as-held g h) (2 * after last) (omega (arith, later)) (omega (arith, later, ne, end-due g h))
 
 opened : {P : Type 0} {w : Width P} {c : Columns P} {ls : List (List Range)} {a : Arrays} {s : Slots} {j : JoinSweep} {start : ℕ} → Joining w c ls a s j (2 * start) → Busy start j → Later (2 * start + 1) (j .held) → (StartsAt start (j .held) → ⊥) → Opened w c ls a s j start
 opened {j = j} {start = start} g busy l not = record { joining = g; taken = later-left g (2 * start + 1) l; busy = go busy }
@@ -176,18 +176,18 @@ opened {j = j} {start = start} g busy l not = record { joining = g; taken = late
 
 -- the starts of a point are taken
 module _ {P : Type 0} {w : Width P} {c : Columns P} {ls : List (List Range)} {a : Arrays} {s : Slots} {j : JoinSweep} (start : ℕ) (g : Joining w c ls a s j (2 * start)) (busy : Busy start j) where
-  pub opened-over : j .held ≡ Done → Opened w c ls a s j start
-  opened-over h = opened g busy (rw h tt) (rw h (λ k. k))
+  pub opened-else : NoStart (j .held) → Opened w c ls a s j start
+  opened-else n = opened g busy (go (j .held) refl n) (not (j .held) n)
+    where
+      go : (r : Step) → j .held ≡ r → NoStart r → Later (2 * start + 1) r
+      go (Start y list v z) h n = absurd n
+      go (End at list z) h n = omega (arith, end-due g h)
+      go Done h n = tt
 
-  module _ {x : Event} {z : Sizes} (h : j .held ≡ Next x z) where
-    abbrev Open : Type 0
-    Open = Opened w c ls a s (record { held = Next x z; «active_count» = j .«active_count» }) start
+      not : (r : Step) → NoStart r → StartsAt start r → ⊥
+      not (Start y list v z) n k = n
+      not (End at list z) n k = k
+      not Done n k = k
 
-    as-busy : Busy start (record { held = Next x z; «active_count» = j .«active_count» })
-    as-busy = rw h at busy
-
-    pub opened-end : {at list : ℕ} → x ≡ End at list → Open
-    opened-end q = opened (as-held g h) as-busy (rw q (omega (arith, rw q at (due g h)))) (rw q (λ k. k))
-
-    pub opened-start : {y : Span} {list : ℕ} {v : ℤ} → x ≡ Start y list v → (y .start ≡ start → ⊥) → Open
-    opened-start q ne = opened (as-held g h) as-busy (rw q (omega (arith, ne, rw q at (due g h)))) (rw q (λ k. ne (sym k)))
+  pub opened-start : {y : Span} {list : ℕ} {v : ℤ} {z : Sizes} → j .held ≡ Start y list v z → (y .start ≡ start → ⊥) → Opened w c ls a s (record { held = Start y list v z; «active_count» = j .«active_count» }) start
+  opened-start h ne = opened (as-held g h) (rw h at busy) (omega (arith, ne, start-due g h)) (λ k. ne (sym k))

@@ -11,11 +11,10 @@ use Rattle.rules.specs.ManyWay.{present}
 use Rattle.rules.specs.Sweep as rules
 use Rattle.rules.specs.Proving.Below.{nones}
 use Rattle.multiway_sweep.specs.Front.{edge, Front, Next as Due}
-use Rattle.multiway_sweep.specs.Steps.{Columns, Arrays, event, Sweeping}
-use Rattle.multiway_sweep.specs.declared.Event.the-variants.{Start, End}
+use Rattle.multiway_sweep.specs.Steps.{Columns, Arrays, NoStart, On, Holds}
 use Rattle.multiway_sweep.specs.declared.Range.{Range as Span}
 use Rattle.multiway_sweep.specs.declared.Step.{Step}
-use Rattle.multiway_sweep.specs.declared.Step.the-variants.{Next, Done}
+use Rattle.multiway_sweep.specs.declared.Step.the-variants.{Start, End, Done}
 use Rattle.join_sweep.specs.Active.{Slots, active, Counted}
 use Rattle.join_sweep.specs.declared.Begin.{Begin}
 use Rattle.join_sweep.specs.declared.Begin.the-variants.{At as BeginAt, Nowhere}
@@ -27,14 +26,9 @@ use Rattle.join_sweep.specs.declared.Stretch.the-variants.{Next as Spans
 
 -- a start at s is held
 abbrev pub StartsAt : ℕ → Step → Type 0
+StartsAt s (Start x list value z) = s ≡ x .start
+StartsAt s (End key list z) = ⊥
 StartsAt s Done = ⊥
-StartsAt s (Next (Start x list value) z) = s ≡ x .start
-StartsAt s (Next (End key list) z) = ⊥
-
-abbrev pub NoStart : Step → Type 0
-NoStart Done = Unit {0}
-NoStart (Next (Start x list value) z) = ⊥
-NoStart (Next (End key list) z) = Unit {0}
 
 -- something is active, or a start at s is held
 abbrev pub Busy : ℕ → JoinSweep → Type 0
@@ -60,22 +54,16 @@ BegunAfter j last greatest r = ((after last ≡ greatest + 1) × (r ≡ Nowhere)
 
 -- an event is held that bears on no point up to s
 abbrev pub Ahead : ℕ → Step → Type 0
-Ahead s Done = ⊥
-Ahead s (Next x z) = s < edge (event x)
+Ahead s = On (λ e. s < edge e) ⊥
 
 -- r is the last point that the held event does not bear on
 abbrev pub Reached : Step → ℕ → Type 0
-Reached Done r = ⊥
-Reached (Next x z) r = r + 1 ≡ edge (event x)
+Reached h r = On (λ e. r + 1 ≡ edge e) ⊥ h
 
 module _ {P : Type 0} (w : Width P) (c : Columns P) where
   -- of the events that are left the first is held
-  abbrev pub Holds : Arrays → Step → List (rules.Event ℤ) → Type 0
-  Holds a Done left = left ≡ []
-  Holds a (Next x z) left = (rest : List (rules.Event ℤ)) × (left ≡ event x ∷ rest) × Sweeping w c a z rest
-
   pub record Ready (a : Arrays) (held : Step) (left : List (rules.Event ℤ)) : Type 0 where
-    pub holds : Holds a held left
+    pub holds : Holds w c a held left
 
   module _ (ls : List (List Range)) (a : Arrays) (s : Slots) (j : JoinSweep) where
     -- at the moment t a join has taken the events before, and has what the lists have then
@@ -86,7 +74,7 @@ module _ {P : Type 0} (w : Width P) (c : Columns P) where
       pub counted : Counted (length ls) (j .«active_count») s
       pub left : List (rules.Event ℤ)
       pub front : Front ls t left (active (length ls) s)
-      pub holds : Holds a (j .held) left
+      pub holds : Holds w c a (j .held) left
 
     -- the starts of a point are taken, and something is active
     pub record Opened (start : ℕ) : Type 0 where

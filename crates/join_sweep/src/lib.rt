@@ -1,4 +1,3 @@
-use multiway_sweep::Event;
 use multiway_sweep::Range;
 use multiway_sweep::Step;
 ghost use Prim.Native.Nat.{_+_, _≤_};
@@ -36,10 +35,7 @@ fn begin_from(sweep: JoinSweep, from: u64) -> Begin
         return Begin::At(from);
     }
     let held = sweep.held;
-    let Step::Next(event, _) = held else {
-        return Begin::Nowhere;
-    };
-    let Event::Start(range, _, _) = event else {
+    let Step::Start(range, _, _, _) = held else {
         return Begin::Nowhere;
     };
     Begin::At(range.start)
@@ -64,11 +60,9 @@ pub fn reach(start: u64, held: Step) -> u64
     requires { ⌜ Ahead start held ⌝ }
     ensures { λ r. ⌜ Reached held r ⌝ }
 {
-    let Step::Next(event, _) = held else {
-        return start;
-    };
-    match event {
-        Event::End(at, _) => at,
-        Event::Start(range, _, _) => range.start - 1,
+    match held {
+        Step::Start(range, _, _, _) => range.start - 1,
+        Step::End(at, _, _) => at,
+        Step::Done => start,
     }
 }

@@ -8,8 +8,6 @@ use join_sweep::begin_after;
 use join_sweep::reach;
 use multiway_step_seat::fill;
 use multiway_step_seat::step;
-use multiway_step_seat::take_start;
-use multiway_sweep::Event;
 use multiway_sweep::Range;
 use multiway_sweep::Sizes;
 use multiway_sweep::Step;
@@ -52,10 +50,7 @@ fn deactivate(
     let mut held = sweep.held;
     let mut active_count = sweep.active_count;
     loop {
-        let Step::Next(event, sizes) = held else {
-            return JoinSweep { held, active_count };
-        };
-        let Event::End(at, list) = event else {
+        let Step::End(at, list, sizes) = held else {
             return JoinSweep { held, active_count };
         };
         if at != end {
@@ -104,10 +99,7 @@ fn activate(
     let mut held = sweep.held;
     let mut active_count = sweep.active_count;
     loop {
-        let Step::Next(event, sizes) = held else {
-            return JoinSweep { held, active_count };
-        };
-        let Event::Start(range, list, value) = event else {
+        let Step::Start(range, list, value, sizes) = held else {
             return JoinSweep { held, active_count };
         };
         if range.start != start {
@@ -193,7 +185,7 @@ pub fn next_stretch(
     Stretch::Next(Range { start, end }, opened)
 }
 
-// Lays the sweep of the lists, and holds its first event, which is a start where there is any.
+// Lays the sweep of the lists, and holds its first event.
 pub fn first_event(
     starts: &[Point],
     ends: &[Point],
@@ -217,10 +209,7 @@ pub fn first_event(
         starts: size,
         active_ends: 0,
     };
-    if size == 0 {
-        return Step::Done;
-    }
-    take_start(
+    step(
         starts,
         ends,
         values,

@@ -3,7 +3,6 @@ use heap::push;
 use heap::replace_top;
 use integer::seat::Point;
 use integer::seat::key_at;
-use multiway_sweep::Event;
 use multiway_sweep::Range;
 use multiway_sweep::Sizes;
 use multiway_sweep::Step;
@@ -21,7 +20,7 @@ ghost use Rattle.multiway_sweep.specs.Steps.{columns, arrays, Sweeping, Stepped
 ghost use Rattle.multiway_sweep.specs.Begins.{Fillable, Filled};
 
 // The start on top, which is the next event: its range becomes active, and its list goes on to the range after it.
-pub fn take_start(
+fn take_start(
     starts: &[Point],
     ends: &[Point],
     values: &[i32],
@@ -51,7 +50,6 @@ pub fn take_start(
     next[list] = after;
     push(end_keys, end_lists, sizes.active_ends, end, tag);
     let active_ends = sizes.active_ends + 1;
-    let event = Event::Start(Range { start, end }, list, value);
     if after < stops[list] {
         replace_top(
             start_keys,
@@ -60,8 +58,10 @@ pub fn take_start(
             key_at(starts, after),
             tag,
         );
-        return Step::Next(
-            event,
+        return Step::Start(
+            Range { start, end },
+            list,
+            value,
             Sizes {
                 starts: sizes.starts,
                 active_ends,
@@ -69,8 +69,10 @@ pub fn take_start(
         );
     }
     pop(start_keys, start_lists, sizes.starts);
-    Step::Next(
-        event,
+    Step::Start(
+        Range { start, end },
+        list,
+        value,
         Sizes {
             starts: sizes.starts - 1,
             active_ends,
@@ -103,8 +105,9 @@ pub fn step(
         let list = wide(end_lists[0]);
         pop(end_keys, end_lists, sizes.active_ends);
         let active_ends = sizes.active_ends - 1;
-        return Step::Next(
-            Event::End(key, list),
+        return Step::End(
+            key,
+            list,
             Sizes {
                 starts: sizes.starts,
                 active_ends,

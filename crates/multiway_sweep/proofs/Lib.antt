@@ -3,5 +3,7 @@ pub mod Cursors
 pub mod Front
 pub mod Holds
 pub mod Stands
+pub mod Sorts
 pub mod Steps
 pub mod Filled
+pub mod Sweeps

@@ -13,8 +13,7 @@ use Rattle.rules.specs.Sweep as rules
 use Rattle.multiway_sweep.specs.Stands.{Stands, Start}
 use Rattle.multiway_sweep.specs.Steps.{Columns, Arrays, view, Sweeping, Stepped}
 use Rattle.multiway_sweep.specs.declared.Sizes.{Sizes}
-use Rattle.multiway_sweep.specs.declared.Event.the-variants.{Start as StartOf, End}
-use Rattle.multiway_sweep.specs.declared.Step.the-variants.{Next}
+use Rattle.multiway_sweep.specs.declared.Step.the-variants.{Start as Starts, End}
 use Rattle.multiway_sweep.proofs.Stands.{all-done, ended, start-due, started-more, started-last}
 
 module _ {P : Type 0} {w : Width P} {c : Columns P} {a : Arrays} {z : Sizes} {rest : List (rules.Event ℤ)} (g : Sweeping w c a z rest) where
@@ -34,7 +33,7 @@ module _ {P : Type 0} {w : Width P} {c : Columns P} {a : Arrays} {z : Sizes} {re
   starts-heap = g .stands .starts-held .heap
 
   -- the end on top of its heap goes
-  pub end-taken : {k : ℕ} → (k ≡ getD (a .end-lists) 0 0) × (k < 256) → (0 < z .«active_ends») × ((z .starts ≡ 0) ⊎ (end-key < start-key)) → {ks ls : List ℕ} → Popped (held (a .end-keys) (a .end-lists)) (held ks ls) (z .«active_ends») → Stepped w c a (record { next = a .next; stops = a .stops; start-keys = a .start-keys; start-lists = a .start-lists; end-keys = ks; end-lists = ls }) rest (Next (End end-key k) (record { starts = z .starts; «active_ends» = z .«active_ends» - 1 }))
+  pub end-taken : {k : ℕ} → (k ≡ getD (a .end-lists) 0 0) × (k < 256) → (0 < z .«active_ends») × ((z .starts ≡ 0) ⊎ (end-key < start-key)) → {ks ls : List ℕ} → Popped (held (a .end-keys) (a .end-lists)) (held ks ls) (z .«active_ends») → Stepped w c a (record { next = a .next; stops = a .stops; start-keys = a .start-keys; start-lists = a .start-lists; end-keys = ks; end-lists = ls }) rest (End end-key k (record { starts = z .starts; «active_ends» = z .«active_ends» - 1 }))
   end-taken {k} tag first pop =
       let s = ended (g .stands) start-key (getD (a .start-lists) 0 0) end-key k refl (ap (rank end-key) (sym (tag .0))) (tag .1) (first .0) (first .1) pop in
       (tt, (s .0, s .1, record { starts-long = g .starts-long; ends-long = g .ends-long; next-long = g .next-long; stops-long = g .stops-long; stands = s .2 }))
@@ -62,7 +61,7 @@ module _ {P : Type 0} {w : Width P} {c : Columns P} {a : Arrays} {z : Sizes} {re
     -- with what was read of its range
     module _ {end : ℕ} {value : ℤ} (e : end ≡ keys w (c .ends) place) (v : value ≡ getD (c .values) place (pos 0)) (ks ls hs hl : List ℕ) (push : Pushed (held (a .end-keys) (a .end-lists)) (held ks ls) (z .«active_ends») (rank end (getD (a .start-lists) 0 0))) where
       abbrev Taken : ℕ → Type 0
-      Taken starts = Stepped w c a (record { next = onward; stops = a .stops; start-keys = hs; start-lists = hl; end-keys = ks; end-lists = ls }) rest (Next (StartOf (record { start = start-key; end = end }) j value) (record { starts = starts; «active_ends» = z .«active_ends» + 1 }))
+      Taken starts = Stepped w c a (record { next = onward; stops = a .stops; start-keys = hs; start-lists = hl; end-keys = ks; end-lists = ls }) rest (Starts (record { start = start-key; end = end }) j value (record { starts = starts; «active_ends» = z .«active_ends» + 1 }))
 
       pushed : Pushed (held (a .end-keys) (a .end-lists)) (held ks ls) (z .«active_ends») (rank (keys w (c .ends) place) j)
       pushed = rw (e, sym (tag .0)) at push

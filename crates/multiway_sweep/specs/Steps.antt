@@ -10,10 +10,8 @@ use Rattle.heap.specs.Heap.{held}
 use Rattle.rules.specs.Lists.{Width, keys}
 use Rattle.rules.specs.Sweep as rules
 use Rattle.multiway_sweep.specs.Stands.{View, Stands}
-use Rattle.multiway_sweep.specs.declared.Event.{Event}
-use Rattle.multiway_sweep.specs.declared.Event.the-variants.{Start, End}
 use Rattle.multiway_sweep.specs.declared.Step.{Step}
-use Rattle.multiway_sweep.specs.declared.Step.the-variants.{Next, Done}
+use Rattle.multiway_sweep.specs.declared.Step.the-variants.{Start, End, Done}
 use Rattle.multiway_sweep.specs.declared.Sizes.{Sizes}
 
 -- whether the earliest end comes before the next start, where the heaps have so many entries
@@ -21,10 +19,33 @@ pub record EndFirst (z : Sizes) (start end : ℕ) (r : Bool) : Type 0 where
   pub yes : r ≡ true → (0 < z .«active_ends») × ((z .starts ≡ 0) ⊎ (end < start))
   pub no : r ≡ false → (z .«active_ends» ≡ 0) ⊎ ((0 < z .starts) × (start ≤ end))
 
--- an event of the code, as the rules have it
-abbrev pub event : Event → rules.Event ℤ
-event (Start r list value) = rules.starts (r .start) list value
-event (End key list) = rules.ends key list
+-- the sizes of the heaps after a step
+abbrev pub sizes-after : Step → Sizes → Sizes
+sizes-after (Start r list value z) before = z
+sizes-after (End key list z) before = z
+sizes-after Done before = before
+
+-- a step that took no start, no end, or something
+abbrev pub NoStart : Step → Type 0
+NoStart (Start r list value z) = ⊥
+NoStart (End key list z) = Unit {0}
+NoStart Done = Unit {0}
+
+abbrev pub NoEnd : Step → Type 0
+NoEnd (Start r list value z) = Unit {0}
+NoEnd (End key list z) = ⊥
+NoEnd Done = Unit {0}
+
+abbrev pub Some : Step → Type 0
+Some (Start r list value z) = Unit {0}
+Some (End key list z) = Unit {0}
+Some Done = ⊥
+
+-- what holds of the event that a step took, and where it took none
+abbrev pub On : (rules.Event ℤ → Type 0) → Type 0 → Step → Type 0
+On Q none (Start r list value z) = Q (rules.starts (r .start) list value)
+On Q none (End key list z) = Q (rules.ends key list)
+On Q none Done = none
 
 -- the columns that a sweep reads, and the arrays that hold where it stands
 pub record Columns (P : Type 0) : Type 0 where
@@ -62,13 +83,23 @@ pub record Sweeping {P : Type 0} (w : Width P) (c : Columns P) (a : Arrays) (z :
   pub stops-long : length (a .stops) ≡ 16
   pub stands : Stands (w .points) (keys w (c .starts)) (keys w (c .ends)) (λ i. getD (c .values) i (pos 0)) (length (c .values)) (view a) (z .starts) (z .«active_ends») rest
 
-module _ {P : Type 0} (w : Width P) (c : Columns P) (a b : Arrays) where
+module _ {P : Type 0} (w : Width P) (c : Columns P) where
+  -- of the events that are left e is the first, and a sweep with heaps of some sizes has the others
+  abbrev pub Took : Arrays → rules.Event ℤ → Sizes → List (rules.Event ℤ) → Type 0
+  Took a e z left = (rest : List (rules.Event ℤ)) × (left ≡ e ∷ rest) × Sweeping w c a z rest
+
+  -- a step took the first of the events that are left, or none is
+  abbrev pub Holds : Arrays → Step → List (rules.Event ℤ) → Type 0
+  Holds a (Start r list value z) left = Took a (rules.starts (r .start) list value) z left
+  Holds a (End key list z) left = Took a (rules.ends key list) z left
+  Holds a Done left = left ≡ []
+
   -- a range that starts has the end that stands at its list's next place
-  abbrev pub Reaches : Event → Type 0
-  Reaches (Start r list value) = r .end ≡ keys w (c .ends) (getD (a .next) list 0)
-  Reaches (End key list) = Unit {0}
+  abbrev pub Reaches : Arrays → Step → Type 0
+  Reaches a (Start r list value z) = r .end ≡ keys w (c .ends) (getD (a .next) list 0)
+  Reaches a (End key list z) = Unit {0}
+  Reaches a Done = Unit {0}
 
   -- from the arrays a to the arrays b
-  abbrev pub Stepped : List (rules.Event ℤ) → Step → Type 0
-  Stepped rest Done = rest ≡ []
-  Stepped rest (Next x z) = Reaches x × ((rest' : List (rules.Event ℤ)) × (rest ≡ event x ∷ rest') × Sweeping w c b z rest')
+  abbrev pub Stepped : Arrays → Arrays → List (rules.Event ℤ) → Step → Type 0
+  Stepped a b rest s = Reaches a s × Holds b s rest

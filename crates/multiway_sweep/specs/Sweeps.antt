@@ -4,11 +4,8 @@ use mathlib.Core.List.{List, []}
 use lib.IntN.{ℤ}
 use Rattle.rules.specs.Lists.{Width}
 use Rattle.rules.specs.Sweep as rules
-use Rattle.multiway_sweep.specs.Steps.{Columns, Arrays, arrays, Sweeping, Stepped}
-use Rattle.multiway_sweep.specs.declared.Step.the-variants.{Next}
+use Rattle.multiway_sweep.specs.Steps.{Columns, Arrays, arrays, sizes-after, Sweeping, Stepped}
 use Rattle.multiway_sweep.specs.declared.Sweep.{Sweep}
-use Rattle.multiway_sweep.specs.declared.Yield.{Yield}
-use Rattle.multiway_sweep.specs.declared.Yield.the-variants.{Event, Nothing}
 use Rattle.multiway_sweep.specs.declared.Advance.{Advance}
 
 abbrev pub arrays-of : Sweep → Arrays
@@ -16,9 +13,5 @@ arrays-of s = arrays (s .next) (s .stops) (s .«start_keys») (s .«start_lists�
 
 module _ {P : Type 0} (w : Width P) (c : Columns P) where
   -- from the sweep s to the sweep t; nothing stays nothing
-  abbrev pub Yields : Sweep → Sweep → List (rules.Event ℤ) → Yield → Type 0
-  Yields s t rest Nothing = (rest ≡ []) × Sweeping w c (arrays-of t) (t .sizes) rest
-  Yields s t rest (Event x) = Stepped w c (arrays-of s) (arrays-of t) rest (Next x (t .sizes))
-
   abbrev pub Advanced : Sweep → List (rules.Event ℤ) → Advance → Type 0
-  Advanced s rest r = Yields s (r .sweep) rest (r .yields)
+  Advanced s rest r = Stepped w c (arrays-of s) (arrays-of (r .sweep)) rest (r .taken) × (r .sweep .sizes ≡ sizes-after (r .taken) (s .sizes)) × (rest ≡ [] → Sweeping w c (arrays-of (r .sweep)) (r .sweep .sizes) rest)

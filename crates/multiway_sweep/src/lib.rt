@@ -1,18 +1,10 @@
 ghost use mathlib.Core.Path.{_≡_};
 ghost use Prim.Native.Nat.{_<_};
-ghost use Rattle.multiway_sweep.specs.Steps.{EndFirst};
+ghost use Rattle.multiway_sweep.specs.Steps.{EndFirst, sizes-after};
 
 pub struct Range {
     pub start: u64,
     pub end: u64,
-}
-
-// One list's range starting or ending.
-pub enum Event {
-    // The range, its list and its value.
-    Start(Range, usize, i32),
-    // The last point of the list's active range, and the list.
-    End(u64, usize),
 }
 
 // How many entries the two heaps have.
@@ -21,9 +13,12 @@ pub struct Sizes {
     pub active_ends: usize,
 }
 
-// The next event, with the sizes of the heaps after it, or nothing is left.
+// The next event, one list's range starting or ending, with the sizes of the heaps after it, or nothing is left.
 pub enum Step {
-    Next(Event, Sizes),
+    // The range, its list and its value.
+    Start(Range, usize, i32, Sizes),
+    // The last point of the list's active range, and the list.
+    End(u64, usize, Sizes),
     Done,
 }
 
@@ -39,14 +34,9 @@ pub struct Sweep {
     pub sizes: Sizes,
 }
 
-// What a sweep has next: an event, or nothing is left.
-pub enum Yield {
-    Event(Event),
-    Nothing,
-}
-
+// What a step of a sweep took, and the sweep after it.
 pub struct Advance {
-    pub yields: Yield,
+    pub taken: Step,
     pub sweep: Sweep,
 }
 
@@ -68,4 +58,15 @@ pub fn wide(list: u8) -> usize
     ensures { λ r. ⌜ (r ≡ list) × (r < 256) ⌝ }
 {
     list as usize
+}
+
+// The sizes of the heaps after a step that had these before it.
+pub fn sizes_after(taken: Step, before: Sizes) -> Sizes
+    ensures { λ r. ⌜ r ≡ sizes-after taken before ⌝ }
+{
+    match taken {
+        Step::Start(_, _, _, sizes) => sizes,
+        Step::End(_, _, sizes) => sizes,
+        Step::Done => before,
+    }
 }

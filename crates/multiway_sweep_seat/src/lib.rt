@@ -5,7 +5,7 @@ use multiway_sweep::Advance;
 use multiway_sweep::Sizes;
 use multiway_sweep::Step;
 use multiway_sweep::Sweep;
-use multiway_sweep::Yield;
+use multiway_sweep::sizes_after;
 ghost use Prim.Native.Nat.{_≤_};
 ghost use mathlib.Core.List.{List};
 ghost use mathlib.Core.Path.{_≡_};
@@ -75,14 +75,12 @@ pub fn next(starts: &[Point], ends: &[Point], values: &[i32], sweep: Sweep) -> A
         &mut end_lists,
         sweep.sizes,
     );
-    let Step::Next(event, sizes) = taken else {
-        return Advance {
-            yields: Yield::Nothing,
-            sweep,
-        };
-    };
+    if let Step::Done = taken {
+        return Advance { taken, sweep };
+    }
+    let sizes = sizes_after(taken, sweep.sizes);
     Advance {
-        yields: Yield::Event(event),
+        taken,
         sweep: Sweep {
             next,
             stops,

@@ -10,7 +10,6 @@ pub put-spec : {M : Type 1} → statement M
 put-spec =
     tie.close
     (tie.spec
-    (λ c κs. search needs)
     (λ c. search needs)
     (λ c κs. search needs)
     (λ c. search needs)
@@ -20,4 +19,4 @@ put-spec =
     (λ c. search needs)
     (λ c. search needs)
     (λ c. search needs)
-    (λ c. let r : tie.After-row-of = search in let p : tie.After-put-key = search in row-put (r .row-of .ensures) (p .put-key .ensures) (let s : tie.After-struct-told = search in back w32 _ (s .struct-told .given .1 .1 .1 .0 .1))))
+    (λ c. let p : tie.After-put-key = search in let s : tie.After-struct-told = search in row-put (p .put-key .ensures) (back w32 _ (s .struct-told .given .1 .1 .1 .0 .1))))

@@ -9,10 +9,9 @@ reach-spec =
     tie.close
     (tie.spec
     (λ c. search needs)
+    (λ c. let a : tie.Start = search in let h : tie.After-held = search in start-ahead (h .held .given .1) _ (a .pre))
     (λ c. search needs)
-    (λ c. let a : tie.Start = search in absurd (nothing-ahead _ (c .enum-told .given .1) (a .pre)))
     (λ c. search needs)
-    (λ c. search needs)
-    (λ c. let a : tie.Start = search in let h : tie.After-held = search in let v : tie.After-event2 = search in start-ahead (h .held .given .1) (v .event2 .given .1) _ (a .pre))
-    (λ c. let h : tie.After-held = search in end-reached (h .held .given .1) (c .before .event .given .1))
-    (λ c. let a : tie.Start = search in let h : tie.After-held = search in let v : tie.After-event2 = search in start-reached (h .held .given .1) (v .event2 .given .1) _ (a .pre)))
+    (λ c. let a : tie.Start = search in let h : tie.After-held = search in start-reached (h .held .given .1) _ (a .pre))
+    (λ c. let h : tie.After-held2 = search in end-reached (h .held2 .given .1))
+    (λ c. let a : tie.Start = search in absurd (nothing-ahead _ (c .enum-told .given .1) (a .pre))))

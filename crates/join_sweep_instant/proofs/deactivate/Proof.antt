@@ -8,7 +8,8 @@ use Rattle.rules.specs.Lists.{instants}
 use Rattle.multiway_sweep.specs.Steps.{columns, arrays}
 use Rattle.join_sweep.specs.Active.{slots-of}
 use Rattle.join_sweep.specs.Stretches.{Joining}
-use Rattle.join_sweep.proofs.Turns.{sweeping, end-list, some-active, ended, at-end, closed-none, closed-over, closed-start, closed-end}
+use Rattle.multiway_sweep.proofs.Sorts.{no-end}
+use Rattle.join_sweep.proofs.Turns.{end-past, end-list, some-active, ended, at-end, closed-none, closed-else, closed-end}
 use Rattle.join_sweep_instant.proofs.deactivate.Statement.{statement}
 use Rattle.join_sweep_instant.proofs.deactivate.Tie as tie
 
@@ -20,15 +21,12 @@ abbrev μ-loop : tie.MeasureT-loop
 μ-loop starts ends values stops next₀ start-keys₀ start-lists₀ end-keys₀ end-lists₀ current present₀ end held₀ active-count₀ next start-keys start-lists end-keys end-lists present held active-count =
     active-count
 
--- the places that the answers cite: the entry, the last end, a turn, its event, and that it ends where the stretch did
+-- the places that the answers cite: the entry, the last end, a turn, and the end that it holds
 abbrev Loop : Type 0
 Loop = tie.At-loop Inv-loop μ-loop
 
 abbrev Held : Type 0
 Held = tie.After-held Inv-loop μ-loop
-
-abbrev Ends : Type 0
-Ends = tie.Else1 Inv-loop μ-loop
 
 abbrev entry : Loop → tie.Start Inv-loop μ-loop
 entry l = search
@@ -39,11 +37,8 @@ last l = search
 abbrev turn : Held → Loop
 turn h = search
 
-abbrev held : Ends → Held
+abbrev held : tie.Else1 Inv-loop μ-loop → Held
 held e = search
-
-abbrev told : Ends → tie.After-event Inv-loop μ-loop
-told e = search
 
 pub deactivate-spec : {M : Type 1} → statement M
 deactivate-spec =
@@ -56,20 +51,10 @@ deactivate-spec =
     (λ c ls g. closed-none (c .enum-told .given .1) g)
     (λ c ls g. g)
     (λ c. search needs)
-    (λ c. search needs)
-    (λ c ls g. let l : Loop = search in let k = last l .last-end .given .1 in closed-over _ k (l .loop .inv ls (at-end k g)) (c .enum-told2 .given .1))
-    (λ c. search needs)
-    (λ c. search needs)
-    (λ c ls g. let h : Held = search in let l = turn h in let k = last l .last-end .given .1 in closed-start _ k (l .loop .inv ls (at-end k g)) (h .held .given .1) (c .enum-told3 .given .1))
-    (λ c ls g. let h : Held = search in let v : tie.After-event Inv-loop μ-loop = search in let l = turn h in let k = last l .last-end .given .1 in closed-end _ k (l .loop .inv ls (at-end k g)) (h .held .given .1) (v .event .given .1) (c .if1 .taken))
-    (λ c. let h = held c in let l = turn h in let a = entry l in let k = last l .last-end .given .1 in end-list (l .loop .inv (a .pre .0) (at-end k (a .pre .1))) (h .held .given .1) (told c .event .given .1))
-    (λ c. let h = held c in let l = turn h in let a = entry l in let k = last l .last-end .given .1 in some-active (l .loop .inv (a .pre .0) (at-end k (a .pre .1))) (h .held .given .1) (told c .event .given .1))
-    (λ c κs. let e : Ends = search in let h = held e in let l = turn h in let a = entry l in let k = last l .last-end .given .1 in sweeping (l .loop .inv (a .pre .0) (at-end k (a .pre .1))) (h .held .given .1))
-    (λ c.
-    let e : Ends = search in
-    let h = held e in
-    let l = turn h in
-    let a = entry l in
-    let k = last l .last-end .given .1 in
-    omega (arith, some-active (l .loop .inv (a .pre .0) (at-end k (a .pre .1))) (h .held .given .1) (told e .event .given .1)))
-    (λ c ls g. let e : Ends = search in let h = held e in ended (turn h .loop .inv ls g) (h .held .given .1) (told e .event .given .1) (c .step .ensures) (omega (arith, e .if1 .left))))
+    (λ c ls g. let l : Loop = search in let k = last l .last-end .given .1 in closed-else _ k (l .loop .inv ls (at-end k g)) (no-end (l .loop .held) search))
+    (λ c ls g. let h : Held = search in let l = turn h in let k = last l .last-end .given .1 in closed-end _ k (l .loop .inv ls (at-end k g)) (h .held .given .1) (c .if1 .taken))
+    (λ c. let h = held c in let l = turn h in let a = entry l in let k = last l .last-end .given .1 in end-list (l .loop .inv (a .pre .0) (at-end k (a .pre .1))) (h .held .given .1))
+    (λ c. let h = held c in let l = turn h in let a = entry l in let k = last l .last-end .given .1 in some-active (l .loop .inv (a .pre .0) (at-end k (a .pre .1))) (h .held .given .1))
+    (λ c κs. let e : tie.Else1 Inv-loop μ-loop = search in let h = held e in let l = turn h in let a = entry l in let k = last l .last-end .given .1 in end-past (l .loop .inv (a .pre .0) (at-end k (a .pre .1))) (h .held .given .1))
+    (λ c. let e : tie.Else1 Inv-loop μ-loop = search in let h = held e in let l = turn h in let a = entry l in let k = last l .last-end .given .1 in omega (arith, some-active (l .loop .inv (a .pre .0) (at-end k (a .pre .1))) (h .held .given .1)))
+    (λ c ls g. let e : tie.Else1 Inv-loop μ-loop = search in let h = held e in ended (turn h .loop .inv ls g) (h .held .given .1) (c .step .ensures) (omega (arith, e .if1 .left))))

@@ -11,7 +11,8 @@ use Rattle.rules.specs.Lists.{seats}
 use Rattle.multiway_sweep.specs.Steps.{columns, arrays}
 use Rattle.join_sweep.specs.Active.{slots-of}
 use Rattle.join_sweep.specs.Stretches.{Busy, Joining}
-use Rattle.join_sweep.proofs.Turns.{sweeping, start-few, started, opened-over, opened-end, opened-start}
+use Rattle.multiway_sweep.proofs.Sorts.{no-start}
+use Rattle.join_sweep.proofs.Turns.{start-past, start-few, started, opened-else, opened-start}
 use Rattle.join_sweep_seat.proofs.activate.Statement.{statement}
 use Rattle.join_sweep_seat.proofs.activate.Tie as tie
 
@@ -24,15 +25,12 @@ abbrev μ-loop : tie.MeasureT-loop
 μ-loop starts ends values stops next₀ start-keys₀ start-lists₀ end-keys₀ end-lists₀ current₀ present₀ start held₀ active-count₀ next start-keys start-lists end-keys end-lists current present held active-count =
     16 - active-count
 
--- the places that the answers cite: the entry, a turn, its event, and that it starts there
+-- the places that the answers cite: the entry, a turn, and the start that it holds
 abbrev Loop : Type 0
 Loop = tie.At-loop Inv-loop μ-loop
 
 abbrev Held : Type 0
 Held = tie.After-held Inv-loop μ-loop
-
-abbrev Starts : Type 0
-Starts = tie.Else1 Inv-loop μ-loop
 
 abbrev entry : Loop → tie.Start Inv-loop μ-loop
 entry l = search
@@ -40,13 +38,10 @@ entry l = search
 abbrev turn : Held → Loop
 turn h = search
 
-abbrev held : Starts → Held
+abbrev held : tie.Else1 Inv-loop μ-loop → Held
 held e = search
 
-abbrev told : Starts → tie.After-event Inv-loop μ-loop
-told e = search
-
-abbrev known : Starts → tie.After-known-told2 Inv-loop μ-loop
+abbrev known : tie.Else1 Inv-loop μ-loop → tie.After-known-told Inv-loop μ-loop
 known e = search
 
 pub activate-spec : {M : Type 1} → statement M
@@ -57,19 +52,15 @@ activate-spec =
     μ-loop
     (λ c. let a : tie.Start Inv-loop μ-loop = search in ((λ ls g. g), a .pre .1))
     (λ c. search needs)
-    (λ c. search needs)
-    (λ c ls g. let l : Loop = search in opened-over _ (l .loop .inv .0 ls g) (l .loop .inv .1) (c .enum-told .given .1))
-    (λ c. search needs)
-    (λ c. search needs)
-    (λ c ls g. let h : Held = search in let l = turn h in opened-end _ (l .loop .inv .0 ls g) (l .loop .inv .1) (h .held .given .1) (c .enum-told2 .given .1))
-    (λ c ls g. let h : Held = search in let v : tie.After-event Inv-loop μ-loop = search in let l = turn h in opened-start _ (l .loop .inv .0 ls g) (l .loop .inv .1) (h .held .given .1) (v .event .given .1) (c .if1 .taken))
-    (λ c. let h = held c in let l = turn h in let a = entry l in omega (arith, start-few (l .loop .inv .0 (a .pre .0 .0) (a .pre .0 .1)) (h .held .given .1) (told c .event .given .1)))
-    (λ c. let h = held c in let l = turn h in let a = entry l in omega (arith, start-few (l .loop .inv .0 (a .pre .0 .0) (a .pre .0 .1)) (h .held .given .1) (told c .event .given .1)))
-    (λ c. let h = held c in let l = turn h in let a = entry l in omega (arith, start-few (l .loop .inv .0 (a .pre .0 .0) (a .pre .0 .1)) (h .held .given .1) (told c .event .given .1)))
-    (λ c. let h = held c in let l = turn h in let a = entry l in omega (arith, start-few (l .loop .inv .0 (a .pre .0 .0) (a .pre .0 .1)) (h .held .given .1) (told c .event .given .1)))
-    (λ c κs. let e : Starts = search in let h = held e in let l = turn h in let a = entry l in sweeping (l .loop .inv .0 (a .pre .0 .0) (a .pre .0 .1)) (h .held .given .1))
-    (λ c. let e : Starts = search in let h = held e in let l = turn h in let a = entry l in omega (arith, start-few (l .loop .inv .0 (a .pre .0 .0) (a .pre .0 .1)) (h .held .given .1) (told e .event .given .1)))
+    (λ c ls g. let l : Loop = search in opened-else _ (l .loop .inv .0 ls g) (l .loop .inv .1) (no-start (l .loop .held) search))
+    (λ c ls g. let h : Held = search in let l = turn h in opened-start _ (l .loop .inv .0 ls g) (l .loop .inv .1) (h .held .given .1) (c .if1 .taken))
+    (λ c. let h = held c in let l = turn h in let a = entry l in omega (arith, start-few (l .loop .inv .0 (a .pre .0 .0) (a .pre .0 .1)) (h .held .given .1)))
+    (λ c. let h = held c in let l = turn h in let a = entry l in omega (arith, start-few (l .loop .inv .0 (a .pre .0 .0) (a .pre .0 .1)) (h .held .given .1)))
+    (λ c. let h = held c in let l = turn h in let a = entry l in omega (arith, start-few (l .loop .inv .0 (a .pre .0 .0) (a .pre .0 .1)) (h .held .given .1)))
+    (λ c. let h = held c in let l = turn h in let a = entry l in omega (arith, start-few (l .loop .inv .0 (a .pre .0 .0) (a .pre .0 .1)) (h .held .given .1)))
+    (λ c κs. let e : tie.Else1 Inv-loop μ-loop = search in let h = held e in let l = turn h in let a = entry l in start-past (l .loop .inv .0 (a .pre .0 .0) (a .pre .0 .1)) (h .held .given .1))
+    (λ c. let e : tie.Else1 Inv-loop μ-loop = search in let h = held e in let l = turn h in let a = entry l in omega (arith, start-few (l .loop .inv .0 (a .pre .0 .0) (a .pre .0 .1)) (h .held .given .1)))
     (λ c.
-    let e : Starts = search in
+    let e : tie.Else1 Inv-loop μ-loop = search in
     let h = held e in
-    ((λ ls g. started (turn h .loop .inv .0 ls g) (h .held .given .1) (told e .event .given .1) (back w32 _ (known e .known-told2 .given .1 .1 .0 .1)) (c .step .ensures) (omega (arith, e .if1 .left))), inl (omega arith))))
+    ((λ ls g. started (turn h .loop .inv .0 ls g) (h .held .given .1) (back w32 _ (known e .known-told .given .1 .1 .0 .1)) (c .step .ensures) (omega (arith, e .if1 .left))), inl (omega arith))))

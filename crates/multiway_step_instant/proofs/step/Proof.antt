@@ -19,6 +19,6 @@ step-spec =
     (λ c κs. let a : tie.Start = search in let i : tie.Then1 = search in (ends-heap (a .pre .1), i .before .end-first .ensures .yes (i .if1 .taken) .0))
     (λ c. let i : tie.Then1 = search in i .before .end-first .ensures .yes (i .if1 .taken) .0)
     (λ c. let i : tie.Then1 = search in λ rest g. end-taken g (c .before .before .before .before .wide .ensures) (i .before .end-first .ensures .yes (i .if1 .taken)) (c .before .pop .ensures))
-    (λ c rest g. nothing-left g (c .if2 .taken) (⊎-elim (λ h. h) (λ h. absurd (omega arith)) (c .before .before .before .end-first .ensures .no (c .before .before .if1 .left))))
+    (λ c rest g. (tt, nothing-left g (c .if2 .taken) (⊎-elim (λ h. h) (λ h. absurd (omega arith)) (c .before .before .before .end-first .ensures .no (c .before .before .if1 .left)))))
     (λ c κs. let a : tie.Start = search in let i : tie.Else1 = search in (a .pre, (omega arith, ⊎-elim inl (λ h. inr (h .1)) (i .before .end-first .ensures .no (i .if1 .left)))))
     (λ c. search needs))
