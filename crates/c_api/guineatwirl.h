@@ -2,6 +2,8 @@
    Each function answers document 01's code, and writes the code's number to *number: with code 0 the
    pieces written at the front of the output columns, whose later places keep their contents. Every
    refusal leaves all output columns untouched. Columns must not overlap, and number must not be null.
+   n ranges have 2n events and give at most 2n - 1 pieces (1 for no ranges), so room for 4,096 is always
+   enough.
    Points are seats (uint32_t) or instants (int64_t); values are whole pence. */
 #ifndef GUINEATWIRL_H
 #define GUINEATWIRL_H

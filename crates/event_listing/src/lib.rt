@@ -1,6 +1,7 @@
 // The event listing: every start and end of the lists' ranges, in the order of the sweep.
 
 use multiway_sweep::Range;
+use rules::shorter;
 ghost use Prim.Native.Nat.{_<_, min};
 ghost use mathlib.Core.Path.{_≡_};
 ghost use Rattle.rules.specs.Sweep.{starts, ends};
@@ -36,12 +37,6 @@ pub fn end_row(key: u64, list: usize) -> Row
         list: list as u8,
         value: 0,
     }
-}
-
-pub fn shorter(a: usize, b: usize) -> usize
-    ensures { λ r. ⌜ r ≡ min a b ⌝ }
-{
-    if a < b { a } else { b }
 }
 
 // The length of the shortest of four columns.

@@ -14,11 +14,12 @@ use Rattle.rules.specs.ManyWay.{present}
 use Rattle.rules.specs.Sweep as rules
 use Rattle.rules.specs.Proving.Moments.{moment}
 use Rattle.multiway_sweep.specs.Front.{apply, Front, Next as Due}
-use Rattle.multiway_sweep.specs.Steps.{Columns, Arrays, NoStart, NoEnd, On, Sweeping, Took, Holds, Stepped}
+use Rattle.multiway_sweep.specs.Steps.{Columns, Arrays, NoStart, On, Sweeping, Took, Holds, Stepped}
 use Rattle.multiway_sweep.specs.declared.Range.{Range as Span}
 use Rattle.multiway_sweep.specs.declared.Sizes.{Sizes}
 use Rattle.multiway_sweep.specs.declared.Step.{Step}
 use Rattle.multiway_sweep.specs.declared.Step.the-variants.{Start, End, Done}
+use Rattle.multiway_sweep.proofs.Sorts.{NoEnd}
 use Rattle.multiway_sweep.proofs.Front.{front-take, front-move, front-list, front-starts, front-ends}
 use Rattle.join_sweep.specs.Active.{Slots, slots-of, active}
 use Rattle.join_sweep.specs.Stretches.{after, moment-of, StartsAt, Busy, Ready, Joining, Opened}

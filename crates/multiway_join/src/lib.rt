@@ -1,6 +1,7 @@
 use combine::Combined;
 use combine::combine;
 use multiway_sweep::Range;
+use rules::shorter;
 ghost use mathlib.Core.Path.{_≡_};
 ghost use Prim.Native.Nat.{_*_, _-_, _<_, _≤_, min, max};
 ghost use Rattle.rules.specs.Runs.{touch};
@@ -122,8 +123,7 @@ pub fn push_merged(pending: Pending, next: Piece) -> Pushed
 pub fn shortest(a: usize, b: usize, c: usize) -> usize
     ensures { λ r. ⌜ r ≡ min a (min b c) ⌝ }
 {
-    let least = if b < c { b } else { c };
-    if a < least { a } else { least }
+    shorter(a, shorter(b, c))
 }
 
 // The most pieces that so many ranges can give, and inner over zero lists.

@@ -7,11 +7,22 @@ use denote.Enum.Declared.{tagOf}
 use types.Run.{OneOf}
 use Rattle.rules.specs.Lists.{Width}
 use Rattle.rules.specs.Sweep as rules
-use Rattle.multiway_sweep.specs.Steps.{Columns, Arrays, sizes-after, NoStart, NoEnd, Some, On, Took, Holds}
+use Rattle.multiway_sweep.specs.Steps.{Columns, Arrays, sizes-after, NoStart, On, Took, Holds}
 use Rattle.multiway_sweep.specs.declared.Sizes.{Sizes}
 use Rattle.multiway_sweep.specs.declared.Step.{Step}
 use Rattle.multiway_sweep.specs.declared.Step.the-variants.{Start, End, Done}
 use Rattle.multiway_sweep.proofs.Step.{the-type}
+
+-- a step that took no end, or something
+abbrev pub NoEnd : Step → Type 0
+NoEnd (Start r list value z) = Unit {0}
+NoEnd (End key list z) = ⊥
+NoEnd Done = Unit {0}
+
+abbrev pub Some : Step → Type 0
+Some (Start r list value z) = Unit {0}
+Some (End key list z) = Unit {0}
+Some Done = ⊥
 
 pub no-start : (s : Step) → OneOf (1 ∷ 2 ∷ []) (tagOf the-type s) → NoStart s
 no-start (Start r list value z) (inl e) = absurd (omega arith)

@@ -6,11 +6,12 @@ use native.Mathlib.Omega.{arith}
 use lib.IntN.{ℤ}
 use Rattle.rules.specs.Lists.{Width}
 use Rattle.rules.specs.Sweep as rules
-use Rattle.multiway_sweep.specs.Steps.{Columns, Arrays, sizes-after, Some, Sweeping, Holds, Stepped}
+use Rattle.multiway_sweep.specs.Steps.{Columns, Arrays, sizes-after, Sweeping, Holds, Stepped}
 use Rattle.multiway_sweep.specs.Sweeps.{arrays-of, Advanced}
 use Rattle.multiway_sweep.specs.declared.Step.{Step}
 use Rattle.multiway_sweep.specs.declared.Step.the-variants.{Start, End, Done}
 use Rattle.multiway_sweep.specs.declared.Sweep.{Sweep}
+use Rattle.multiway_sweep.proofs.Sorts.{Some}
 
 module _ {P : Type 0} (w : Width P) (c : Columns P) where
   -- where something was taken, something was left

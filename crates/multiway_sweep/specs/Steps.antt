@@ -25,21 +25,11 @@ sizes-after (Start r list value z) before = z
 sizes-after (End key list z) before = z
 sizes-after Done before = before
 
--- a step that took no start, no end, or something
+-- a step that took no start
 abbrev pub NoStart : Step → Type 0
 NoStart (Start r list value z) = ⊥
 NoStart (End key list z) = Unit {0}
 NoStart Done = Unit {0}
-
-abbrev pub NoEnd : Step → Type 0
-NoEnd (Start r list value z) = Unit {0}
-NoEnd (End key list z) = ⊥
-NoEnd Done = Unit {0}
-
-abbrev pub Some : Step → Type 0
-Some (Start r list value z) = Unit {0}
-Some (End key list z) = Unit {0}
-Some Done = ⊥
 
 -- what holds of the event that a step took, and where it took none
 abbrev pub On : (rules.Event ℤ → Type 0) → Type 0 → Step → Type 0

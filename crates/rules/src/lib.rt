@@ -1,12 +1,11 @@
+ghost use Prim.Native.Nat.{min};
 ghost use mathlib.Core.Path.{_≡_};
 ghost use Rattle.rules.specs.Answer.{code-of, number-of};
 
-// The most lists of one set, the most ranges of its lists together, and the most pieces that those give.
+// The most lists of one set, and the most ranges of its lists together.
 pub const MAX_LISTS: usize = 16;
 
 pub const MAX_RANGES: usize = 2048;
-
-pub const MAX_PIECES: usize = 4095;
 
 // What a call answers: done, with the pieces written, or a refusal.
 pub enum Answer {
@@ -69,4 +68,11 @@ pub fn number(a: Answer) -> usize
         Answer::ColumnsDiffer => 0,
         Answer::UnknownCombiner => 0,
     }
+}
+
+// The shorter of two lengths.
+pub fn shorter(a: usize, b: usize) -> usize
+    ensures { λ r. ⌜ r ≡ min a b ⌝ }
+{
+    if a < b { a } else { b }
 }

@@ -1,3 +1,4 @@
+use rules::shorter;
 ghost use mathlib.Core.Path.{_≡_};
 ghost use mathlib.Core.Bool.{false};
 ghost use Prim.Native.Nat.{_*_, _-_, _≤_, _<_, min, max};
@@ -58,12 +59,6 @@ pub fn farther(a: u64, b: u64) -> u64
     ensures { λ r. ⌜ r ≡ max a b ⌝ }
 {
     if a < b { b } else { a }
-}
-
-fn shorter(a: usize, b: usize) -> usize
-    ensures { λ r. ⌜ r ≡ min a b ⌝ }
-{
-    if a < b { a } else { b }
 }
 
 // The length of the shortest of five columns.

@@ -3,8 +3,8 @@ use borrow.Author.Needs.{needs}
 use mir.Syntax.{w32}
 use Rattle.integer.proofs.Laws.{back}
 use Rattle.event_listing.proofs.Rows.{row-put}
-use Rattle.event_listing_instant.proofs.put.Statement.{statement}
-use Rattle.event_listing_instant.proofs.put.Tie as tie
+use Rattle.event_rows_seat.proofs.put.Statement.{statement}
+use Rattle.event_rows_seat.proofs.put.Tie as tie
 
 pub put-spec : {M : Type 1} → statement M
 put-spec =

@@ -11,8 +11,8 @@ use Rattle.rules.specs.Lists.{instants, lent}
 use Rattle.multiway_sweep.specs.Steps.{arrays}
 use Rattle.event_listing.specs.Listing.{columns, all}
 use Rattle.event_listing.proofs.Rows.{Written, written-none, written-long, written-last, written-list, start-taken, end-taken, taken-lt, taken-few, taken-row, taken-more}
-use Rattle.event_listing_instant.proofs.write_events.Statement.{statement}
-use Rattle.event_listing_instant.proofs.write_events.Tie as tie
+use Rattle.event_rows_instant.proofs.write_events.Statement.{statement}
+use Rattle.event_rows_instant.proofs.write_events.Tie as tie
 
 abbrev Inv-loop : tie.InvT-loop
 Inv-loop starts ends values counts out-kind₀ out-point₀ out-list₀ out-value₀ stops next₀ start-keys₀ start-lists₀ end-keys₀ end-lists₀ sizes₀ place₀ out-kind out-point out-list out-value next start-keys start-lists end-keys end-lists sizes place =
