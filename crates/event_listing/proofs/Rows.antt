@@ -74,7 +74,7 @@ module _ {P : Type 0} {w : Width P} {l : Lent P} {b : Arrays} {n : ℕ} {t : Ste
   end-taken s e k o = rw (e, k) (record { holds = s; row = o })
 
 module _ {P : Type 0} {w : Width P} {l : Lent P} {c : Listed P} where
-  pub written-none : Listable w l c → {next stops start-keys start-lists end-keys end-lists : List ℕ} {size : ℕ} → Filled w (l .starts) (l .counts) next stops start-keys start-lists size → Whole (held end-keys end-lists) → Written w l c c (arrays next stops start-keys start-lists end-keys end-lists) (record { starts = size; «active_ends» = 0 }) 0
+  pub written-none : Listable w l c → {next stops start-keys start-lists end-keys end-lists : List ℕ} {z : Sizes} → Filled w (l .starts) (l .counts) next stops start-keys start-lists z → Whole (held end-keys end-lists) → Written w l c c (arrays next stops start-keys start-lists end-keys end-lists) z 0
   written-none g f whole = record { listable = g; sweeping = f _ _ whole (l .ends) (l .values) (sym (g .agree .values-long)) (g .agree .ends-long ∙ sym (g .agree .values-long)) (g .formed); laid = refl }
 
   module _ {d : Listed P} {a : Arrays} {z : Sizes} {n : ℕ} (f : Written w l c d a z n) where

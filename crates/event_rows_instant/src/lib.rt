@@ -5,7 +5,6 @@ use integer::instant::Point;
 use integer::instant::put_key;
 use multiway_step_instant::fill;
 use multiway_step_instant::step;
-use multiway_sweep::Sizes;
 use multiway_sweep::Step;
 use multiway_sweep::sizes_after;
 ghost use Rattle.rules.specs.Lists.{instants, lent};
@@ -57,17 +56,14 @@ pub fn write_events(
     let mut start_lists: [u8; 16] = [0; 16];
     let mut end_keys: [u64; 16] = [0; 16];
     let mut end_lists: [u8; 16] = [0; 16];
-    let mut sizes = Sizes {
-        starts: fill(
-            starts,
-            counts,
-            &mut stops,
-            &mut next,
-            &mut start_keys,
-            &mut start_lists,
-        ),
-        active_ends: 0,
-    };
+    let mut sizes = fill(
+        starts,
+        counts,
+        &mut stops,
+        &mut next,
+        &mut start_keys,
+        &mut start_lists,
+    );
     let mut place: usize = 0;
     loop {
         let taken = step(

@@ -9,7 +9,6 @@ use join_sweep::reach;
 use multiway_step_instant::fill;
 use multiway_step_instant::step;
 use multiway_sweep::Range;
-use multiway_sweep::Sizes;
 use multiway_sweep::Step;
 ghost use Prim.Native.Nat.{_*_, _≤_};
 ghost use mathlib.Core.List.{List};
@@ -204,11 +203,7 @@ pub fn first_event(
         let b = arrays (now (next .exit)) (now (stops .exit)) (now («start_keys» .exit)) (now («start_lists» .exit)) (now («end_keys» .exit)) (now («end_lists» .exit)) in
         ⌜ Ready instants (columns (l .starts) (l .ends) (l .values)) b r (events (lists instants l)) ⌝ }
 {
-    let size = fill(starts, counts, stops, next, start_keys, start_lists);
-    let sizes = Sizes {
-        starts: size,
-        active_ends: 0,
-    };
+    let sizes = fill(starts, counts, stops, next, start_keys, start_lists);
     step(
         starts,
         ends,

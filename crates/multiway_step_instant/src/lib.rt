@@ -131,7 +131,7 @@ pub fn step(
     )
 }
 
-// Lays the cursors of the lists that the counts tell, and the heap of their first starts, and answers its size.
+// Lays the cursors of the lists that the counts tell, and the heap of their first starts, and answers the sizes of the heaps.
 pub fn fill(
     starts: &[Point],
     counts: &[u32],
@@ -139,7 +139,7 @@ pub fn fill(
     next: &mut [usize; 16],
     start_keys: &mut [u64; 16],
     start_lists: &mut [u8; 16],
-) -> usize
+) -> Sizes
     requires { ⌜ Fillable (length (now starts)) (now counts) (now next) (now stops) (now «start_keys») (now «start_lists») ⌝ }
     ensures { λ r. ⌜ Filled instants (now (starts .entry)) (now (counts .entry)) (now (next .exit)) (now (stops .exit)) (now («start_keys» .exit)) (now («start_lists» .exit)) r ⌝ }
 {
@@ -157,5 +157,8 @@ pub fn fill(
         from = stop;
         k += 1;
     }
-    size
+    Sizes {
+        starts: size,
+        active_ends: 0,
+    }
 }

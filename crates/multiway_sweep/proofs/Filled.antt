@@ -187,7 +187,7 @@ module _ {A : Type 0} (n : ℕ) (s e : ℕ → ℕ) (v : ℕ → A) (ns : List �
           go (inl h) = let l : length ns ≤ i = omega arith in rw (List·getD-eq-default ns 0 l, le-ltb i k h)
           go (inr h) = rw (lt-ltb i k h)
 
-pub filled : {P : Type 0} (w : Width P) {starts : List P} {ns next stops start-keys start-lists : List ℕ} {size k from : ℕ} → Laid (keys w starts) ns (length starts) next stops (held start-keys start-lists) size k from → length ns ≤ k → Filled w starts ns next stops start-keys start-lists size
+pub filled : {P : Type 0} (w : Width P) {starts : List P} {ns next stops start-keys start-lists : List ℕ} {size k from : ℕ} → Laid (keys w starts) ns (length starts) next stops (held start-keys start-lists) size k from → length ns ≤ k → Filled w starts ns next stops start-keys start-lists (record { starts = size; «active_ends» = 0 })
 filled w {starts} {ns} g all end-keys end-lists whole ends values p q wf = record {
   starts-long = p;
   ends-long = q;

@@ -28,6 +28,6 @@ Begins {P} w starts counts a z =
     AllWellFormed (w .points) ls → Sweeping w (columns starts ends values) a z (events ls)
 
 -- whatever stands in the arrays of active ends
-abbrev pub Filled : {P : Type 0} → Width P → List P → List ℕ → List ℕ → List ℕ → List ℕ → List ℕ → ℕ → Type 0
-Filled w starts counts next stops start-keys start-lists size =
-    (end-keys end-lists : List ℕ) → Whole (held end-keys end-lists) → Begins w starts counts (arrays next stops start-keys start-lists end-keys end-lists) (record { starts = size; «active_ends» = 0 })
+abbrev pub Filled : {P : Type 0} → Width P → List P → List ℕ → List ℕ → List ℕ → List ℕ → List ℕ → Sizes → Type 0
+Filled w starts counts next stops start-keys start-lists z =
+    (end-keys end-lists : List ℕ) → Whole (held end-keys end-lists) → Begins w starts counts (arrays next stops start-keys start-lists end-keys end-lists) z

@@ -2,7 +2,6 @@ use integer::seat::Point;
 use multiway_step_seat::fill;
 use multiway_step_seat::step;
 use multiway_sweep::Advance;
-use multiway_sweep::Sizes;
 use multiway_sweep::Step;
 use multiway_sweep::Sweep;
 use multiway_sweep::sizes_after;
@@ -28,7 +27,7 @@ pub fn new(starts: &[Point], counts: &[u32]) -> Sweep
     let mut start_lists: [u8; 16] = [0; 16];
     let end_keys: [u64; 16] = [0; 16];
     let end_lists: [u8; 16] = [0; 16];
-    let size = fill(
+    let sizes = fill(
         starts,
         counts,
         &mut stops,
@@ -43,10 +42,7 @@ pub fn new(starts: &[Point], counts: &[u32]) -> Sweep
         start_lists,
         end_keys,
         end_lists,
-        sizes: Sizes {
-            starts: size,
-            active_ends: 0,
-        },
+        sizes,
     }
 }
 
