@@ -1,7 +1,7 @@
--- `two_way_join_seat::next_piece` meets its contract. Assumes nothing.
+-- `two_way_pass_instant::next_piece` meets its contract. Assumes nothing.
 use borrow.Author.Needs.{needs}
-use Rattle.two_way_join_seat.proofs.next_piece.Statement.{statement}
-use Rattle.two_way_join_seat.proofs.next_piece.Tie as tie
+use Rattle.two_way_pass_instant.proofs.next_piece.Statement.{statement}
+use Rattle.two_way_pass_instant.proofs.next_piece.Tie as tie
 
 pub next-piece-spec : {M : Type 1} → statement M
 next-piece-spec =

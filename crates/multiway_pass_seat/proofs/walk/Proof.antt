@@ -1,4 +1,4 @@
--- `multiway_join_seat::walk` meets its contract: the pieces done and the one pending say what the rule says up to the last stretch. Assumes nothing.
+-- `multiway_pass_seat::walk` meets its contract: the pieces done and the one pending say what the rule says up to the last stretch. Assumes nothing.
 use Prim.Native.Nat.{_-_}
 use mathlib.Core.Path.{_∙_}
 use mathlib.Core.List.{List}
@@ -14,8 +14,8 @@ use Rattle.multiway_join.specs.Pieces.{output, operation}
 use Rattle.multiway_join.specs.Passes.{Begins}
 use Rattle.multiway_join.proofs.Going.{Going, going-first, going-long, last-puttable, passed}
 use Rattle.multiway_join.proofs.Walks.{joining-first, found-none, turn-counted, turn-joining, turn-less, turn-silent, turn-apart, turn-puttable, turn-more}
-use Rattle.multiway_join_seat.proofs.walk.Statement.{statement}
-use Rattle.multiway_join_seat.proofs.walk.Tie as tie
+use Rattle.multiway_pass_seat.proofs.walk.Statement.{statement}
+use Rattle.multiway_pass_seat.proofs.walk.Tie as tie
 
 abbrev Inv-loop : tie.InvT-loop
 Inv-loop starts ends values stops next₀ start-keys₀ start-lists₀ end-keys₀ end-lists₀ combiner join lists write out-start₀ out-end₀ out-value₀ current₀ present₀ sweep₀ last-end₀ pending₀ count₀ next start-keys start-lists end-keys end-lists out-start out-end out-value current present sweep last-end pending count =

@@ -1,8 +1,8 @@
--- `multiway_join_instant::pass` meets its contract. Assumes nothing.
+-- `multiway_pass_instant::pass` meets its contract. Assumes nothing.
 use borrow.Author.Needs.{needs}
 use Rattle.multiway_join.proofs.Outcomes.{begins, blank}
-use Rattle.multiway_join_instant.proofs.pass.Statement.{statement}
-use Rattle.multiway_join_instant.proofs.pass.Tie as tie
+use Rattle.multiway_pass_instant.proofs.pass.Statement.{statement}
+use Rattle.multiway_pass_instant.proofs.pass.Tie as tie
 
 -- the entry, where the first event is held
 abbrev entry : tie.After-first-event → tie.Start

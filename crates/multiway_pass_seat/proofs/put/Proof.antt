@@ -1,11 +1,11 @@
--- `multiway_join_seat::put` meets its contract. Assumes nothing.
+-- `multiway_pass_seat::put` meets its contract. Assumes nothing.
 use native.Mathlib.Omega.{arith}
 use borrow.Author.Needs.{needs}
 use mir.Syntax.{w64}
 use Rattle.integer.proofs.Laws.{back}
 use Rattle.multiway_join.proofs.Columns.{put-nothing, placed, put-not, put-done}
-use Rattle.multiway_join_seat.proofs.put.Statement.{statement}
-use Rattle.multiway_join_seat.proofs.put.Tie as tie
+use Rattle.multiway_pass_seat.proofs.put.Statement.{statement}
+use Rattle.multiway_pass_seat.proofs.put.Tie as tie
 
 pub put-spec : {M : Type 1} → statement M
 put-spec =

@@ -1,4 +1,4 @@
--- `two_way_join_seat::pass` meets its contract: the pieces done and those that are left are all pieces. Assumes nothing.
+-- `two_way_pass_seat::pass` meets its contract: the pieces done and those that are left are all pieces. Assumes nothing.
 use Prim.Native.Nat.{_-_}
 use native.Mathlib.Omega.{arith}
 use lib.ListN.{length}
@@ -6,8 +6,8 @@ use Rattle.rules.specs.Lists.{seats}
 use Rattle.two_way.specs.Sides.{pairing-of, two, all}
 use Rattle.two_way.specs.Columns.{columns}
 use Rattle.two_way.proofs.Columns.{Going, going-first, going-long, going-lt, going-few, going-writable, going-more, going-last}
-use Rattle.two_way_join_seat.proofs.pass.Statement.{statement}
-use Rattle.two_way_join_seat.proofs.pass.Tie as tie
+use Rattle.two_way_pass_seat.proofs.pass.Statement.{statement}
+use Rattle.two_way_pass_seat.proofs.pass.Tie as tie
 
 abbrev Inv-loop : tie.InvT-loop
 Inv-loop join starts ends values m write out-start₀ out-end₀ out-left₀ out-right₀ out-presence₀ cursor₀ count₀ out-start out-end out-left out-right out-presence cursor count =
