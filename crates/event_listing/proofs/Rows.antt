@@ -3,18 +3,16 @@ use Prim.Native.Nat.{ℕ, suc, _+_, _*_, _≤_, _<_}
 use mathlib.Core.Path.{_≡_, refl, sym, ap, _∙_}
 use mathlib.Core.List.{List, [], _∷_}
 use native.Mathlib.Omega.{arith}
-use lib.IntN.{ℤ, pos}
-use lib.ListN.{length, getD, take, drop, set, length-take, length-drop, take-append-drop}
+use lib.IntN.{ℤ}
+use lib.ListN.{length, take, drop, set, length-take, length-drop, take-append-drop}
 use lib.Seq.{take-all}
 use Rattle.heap.specs.Heap.{held, Whole}
-use Rattle.rules.specs.Piece.{Piece, Within, AllWellFormed}
-use Rattle.rules.specs.Lists.{Width, Lent, cut, total, keys, lists}
+use Rattle.rules.specs.Piece.{Piece, AllWellFormed}
+use Rattle.rules.specs.Lists.{Width, Lent, lists}
 use Rattle.rules.specs.Answer.{front}
 use Rattle.rules.specs.Sweep.{Event, starts, ends, point, kind, list, own, listed, events, All}
 use Rattle.rules.specs.Outcomes.{Listed, event-value, listed-room, lay-listed}
 use Rattle.rules.specs.Refusals.{Agree}
-use Rattle.rules.specs.Proving.Below.{size}
-use Rattle.rules.proofs.At.{within-le}
 use Rattle.rules.proofs.Columns.{lists-length, lists-size}
 use Rattle.rules.proofs.Fronts.{drop-lt, drop-more, front-long, front-more}
 use Rattle.rules.proofs.Sweep.{all-both, all-append, all-right, all-sort, own-list, own-point, events-length}

@@ -7,12 +7,11 @@ use mathlib.Core.List.{List, [], _∷_}
 use native.Mathlib.Omega.{arith}
 use lib.IntN.{ℤ}
 use lib.ListN.{length, getD, List·getD-map}
-use Rattle.rules.specs.Piece.{Piece, Range, column, Within, AllWellFormed}
+use Rattle.rules.specs.Piece.{Piece, Range, column, AllWellFormed}
 use Rattle.rules.specs.Lists.{Width}
 use Rattle.rules.specs.ManyWay.{present}
 use Rattle.rules.specs.Sweep as rules
 use Rattle.rules.specs.Proving.Below.{nones}
-use Rattle.rules.proofs.At.{within-le}
 use Rattle.rules.proofs.Sweep.{kind-small, all-in, own-point}
 use Rattle.multiway_sweep.specs.Front.{edge, Front}
 use Rattle.multiway_sweep.specs.Steps.{Columns, Arrays, NoStart, Took, Holds}

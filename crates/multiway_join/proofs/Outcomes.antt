@@ -10,12 +10,12 @@ use lib.IntN.{pos}
 use lib.ListN.{length, getD, replicate}
 use borrow.Author.Tests.{le-leb, lt-leb, leb-true, not-false}
 use Rattle.rules.specs.Piece.{Range}
-use Rattle.rules.specs.Lists.{Width, Lent, keys, cut, total, lists}
+use Rattle.rules.specs.Lists.{Width, Lent, keys, cut, lists}
 use Rattle.rules.specs.Answer.{known, judge, leaves}
 use Rattle.rules.specs.Same.{eqℤ}
 use Rattle.rules.specs.Sweep.{events}
 use Rattle.rules.specs.Outcomes.{Operation, kind-of, rule-of, merged, Merged, merged-room, merging}
-use Rattle.rules.specs.Proving.Below.{nones, size}
+use Rattle.rules.specs.Proving.Below.{nones}
 use Rattle.rules.specs.declared.Answer.{Answer}
 use Rattle.rules.specs.declared.Answer.the-variants.{Done, NoRoom}
 use Rattle.rules.specs.declared.Judgement.{Judgement}
