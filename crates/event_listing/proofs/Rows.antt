@@ -10,7 +10,7 @@ use Rattle.heap.specs.Heap.{held, Whole}
 use Rattle.rules.specs.Piece.{Piece, AllWellFormed}
 use Rattle.rules.specs.Lists.{Width, Lent, lists}
 use Rattle.rules.specs.Answer.{front}
-use Rattle.rules.specs.Sweep.{Event, starts, ends, point, kind, list, own, listed, events, All}
+use Rattle.rules.specs.Sweep.{Event, point, kind, list, own, listed, events, All}
 use Rattle.rules.specs.Outcomes.{Listed, event-value, listed-room, lay-listed}
 use Rattle.rules.specs.Refusals.{Agree}
 use Rattle.rules.proofs.Columns.{lists-length, lists-size}
@@ -19,9 +19,7 @@ use Rattle.rules.proofs.Sweep.{all-both, all-append, all-right, all-sort, own-l
 use Rattle.multiway_sweep.specs.Steps.{Arrays, columns as swept, arrays, sizes-after, On, Sweeping, Took, Holds}
 use Rattle.multiway_sweep.specs.Begins.{Filled}
 use Rattle.multiway_sweep.specs.declared.Sizes.{Sizes}
-use Rattle.multiway_sweep.specs.declared.Range.{Range as Span}
 use Rattle.multiway_sweep.specs.declared.Step.{Step}
-use Rattle.multiway_sweep.specs.declared.Step.the-variants.{Start, End}
 use Rattle.multiway_sweep.proofs.Sorts.{on-step}
 use Rattle.event_listing.specs.Listing.{columns, RowOf, all, Writable, Put, Listable, Wrote}
 use Rattle.event_listing.specs.declared.Row.{Row}
@@ -64,12 +62,8 @@ pub record Taken {P : Type 0} (w : Width P) (l : Lent P) (b : Arrays) (n : ℕ) 
   pub holds : Holds w (swept (l .starts) (l .ends) (l .values)) b t (drop n (all w l))
   pub row : On (λ e. RowOf e r) ⊥ t
 
-module _ {P : Type 0} {w : Width P} {l : Lent P} {b : Arrays} {n : ℕ} {t : Step} {r q : Row} {y : Sizes} where
-  pub start-taken : {x : Span} {list : ℕ} {u v : ℤ} → Took w (swept (l .starts) (l .ends) (l .values)) b (starts (x .start) list v) y (drop n (all w l)) → t ≡ Start x list v y → r ≡ q → u ≡ v → RowOf (starts (x .start) list u) q → Taken w l b n t r
-  start-taken s e k m o = rw (e, k) (record { holds = s; row = rw m at o })
-
-  pub end-taken : {key list : ℕ} → Took w (swept (l .starts) (l .ends) (l .values)) b (ends key list) y (drop n (all w l)) → t ≡ End key list y → r ≡ q → RowOf (ends key list) q → Taken w l b n t r
-  end-taken s e k o = rw (e, k) (record { holds = s; row = o })
+pub taken : {P : Type 0} {w : Width P} {l : Lent P} {b : Arrays} {n : ℕ} {t s : Step} {r q : Row} → t ≡ s → r ≡ q → Holds w (swept (l .starts) (l .ends) (l .values)) b s (drop n (all w l)) → On (λ e. RowOf e q) ⊥ s → Taken w l b n t r
+taken e k h o = rw (e, k) (record { holds = h; row = o })
 
 module _ {P : Type 0} {w : Width P} {l : Lent P} {c : Listed P} where
   pub written-none : Listable w l c → {next stops start-keys start-lists end-keys end-lists : List ℕ} {z : Sizes} → Filled w (l .starts) (l .counts) next stops start-keys start-lists z → Whole (held end-keys end-lists) → Written w l c c (arrays next stops start-keys start-lists end-keys end-lists) z 0

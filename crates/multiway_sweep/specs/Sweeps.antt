@@ -12,6 +12,6 @@ abbrev pub arrays-of : Sweep → Arrays
 arrays-of s = arrays (s .next) (s .stops) (s .«start_keys») (s .«start_lists») (s .«end_keys») (s .«end_lists»)
 
 module _ {P : Type 0} (w : Width P) (c : Columns P) where
-  -- from the sweep s to the sweep t; nothing stays nothing
+  -- the sweep s is advanced: a step took what comes next, and where nothing is left the sweep after it has nothing left
   abbrev pub Advanced : Sweep → List (rules.Event ℤ) → Advance → Type 0
   Advanced s rest r = Stepped w c (arrays-of s) (arrays-of (r .sweep)) rest (r .taken) × (r .sweep .sizes ≡ sizes-after (r .taken) (s .sizes)) × (rest ≡ [] → Sweeping w c (arrays-of (r .sweep)) (r .sweep .sizes) rest)

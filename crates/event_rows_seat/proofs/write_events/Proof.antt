@@ -10,7 +10,7 @@ use Rattle.integer.proofs.Laws.{back}
 use Rattle.rules.specs.Lists.{seats, lent}
 use Rattle.multiway_sweep.specs.Steps.{arrays}
 use Rattle.event_listing.specs.Listing.{columns, all}
-use Rattle.event_listing.proofs.Rows.{Written, written-none, written-long, written-last, written-list, start-taken, end-taken, taken-lt, taken-few, taken-row, taken-more}
+use Rattle.event_listing.proofs.Rows.{Written, written-none, written-long, written-last, written-list, taken, taken-lt, taken-few, taken-row, taken-more}
 use Rattle.event_rows_seat.proofs.write_events.Statement.{statement}
 use Rattle.event_rows_seat.proofs.write_events.Tie as tie
 
@@ -56,7 +56,7 @@ write-events-spec =
     let l : At = search in
     let s : Stepped = search in
     let h = s .step .ensures _ (l .loop .inv .sweeping) in
-    let t = ⊎-elim (λ u. start-taken ((rw (u .1 .given .1) at h) .1) (u .4) (u .5) (back w32 _ (u .2 .given .1 .1 .0 .1)) (u .3 .ensures)) (λ u. end-taken ((rw (u .1 .given .1) at h) .1) (u .4) (u .5) (u .3 .ensures)) (m .match .came) in
+    let t = ⊎-elim (λ u. taken (u .4) (u .5) ((rw (u .1 .given .1) at h) .1) (rw (back w32 _ (u .2 .given .1 .1 .0 .1)) at (u .3 .ensures))) (λ u. taken (u .4) (u .5) ((rw (u .1 .given .1) at h) .1) (u .3 .ensures)) (m .match .came) in
     taken-row (l .loop .inv) t)
     (λ c κs. search needs)
     (λ c.
@@ -64,14 +64,14 @@ write-events-spec =
     let l : At = search in
     let s : Stepped = search in
     let h = s .step .ensures _ (l .loop .inv .sweeping) in
-    let t = ⊎-elim (λ u. start-taken ((rw (u .1 .given .1) at h) .1) (u .4) (u .5) (back w32 _ (u .2 .given .1 .1 .0 .1)) (u .3 .ensures)) (λ u. end-taken ((rw (u .1 .given .1) at h) .1) (u .4) (u .5) (u .3 .ensures)) (m .match .came) in
+    let t = ⊎-elim (λ u. taken (u .4) (u .5) ((rw (u .1 .given .1) at h) .1) (rw (back w32 _ (u .2 .given .1 .1 .0 .1)) at (u .3 .ensures))) (λ u. taken (u .4) (u .5) ((rw (u .1 .given .1) at h) .1) (u .3 .ensures)) (m .match .came) in
     omega (arith, taken-few (l .loop .inv) t))
     (λ c.
     let m : Came = search in
     let l : At = search in
     let s : Stepped = search in
     let h = s .step .ensures _ (l .loop .inv .sweeping) in
-    let t = ⊎-elim (λ u. start-taken ((rw (u .1 .given .1) at h) .1) (u .4) (u .5) (back w32 _ (u .2 .given .1 .1 .0 .1)) (u .3 .ensures)) (λ u. end-taken ((rw (u .1 .given .1) at h) .1) (u .4) (u .5) (u .3 .ensures)) (m .match .came) in
+    let t = ⊎-elim (λ u. taken (u .4) (u .5) ((rw (u .1 .given .1) at h) .1) (rw (back w32 _ (u .2 .given .1 .1 .0 .1)) at (u .3 .ensures))) (λ u. taken (u .4) (u .5) ((rw (u .1 .given .1) at h) .1) (u .3 .ensures)) (m .match .came) in
     omega (arith, taken-lt (l .loop .inv) t))
     (λ c.
     let p : tie.After-put Inv-loop μ-loop = search in
@@ -79,5 +79,5 @@ write-events-spec =
     let l : At = search in
     let s : Stepped = search in
     let h = s .step .ensures _ (l .loop .inv .sweeping) in
-    let t = ⊎-elim (λ u. start-taken ((rw (u .1 .given .1) at h) .1) (u .4) (u .5) (back w32 _ (u .2 .given .1 .1 .0 .1)) (u .3 .ensures)) (λ u. end-taken ((rw (u .1 .given .1) at h) .1) (u .4) (u .5) (u .3 .ensures)) (m .match .came) in
+    let t = ⊎-elim (λ u. taken (u .4) (u .5) ((rw (u .1 .given .1) at h) .1) (rw (back w32 _ (u .2 .given .1 .1 .0 .1)) at (u .3 .ensures))) (λ u. taken (u .4) (u .5) ((rw (u .1 .given .1) at h) .1) (u .3 .ensures)) (m .match .came) in
     rw (c .sizes-after .ensures) (taken-more (l .loop .inv) t (p .put .ensures))))
