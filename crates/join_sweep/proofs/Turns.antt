@@ -14,12 +14,12 @@ use Rattle.rules.specs.ManyWay.{present}
 use Rattle.rules.specs.Sweep as rules
 use Rattle.rules.specs.Proving.Moments.{moment}
 use Rattle.multiway_sweep.specs.Front.{apply, Front, Next as Due}
-use Rattle.multiway_sweep.specs.Steps.{Columns, Arrays, NoStart, On, Sweeping, Took, Holds, Stepped}
+use Rattle.multiway_sweep.specs.Steps.{Columns, Arrays, On, Sweeping, Took, Holds, Stepped}
 use Rattle.multiway_sweep.specs.declared.Range.{Range as Span}
 use Rattle.multiway_sweep.specs.declared.Sizes.{Sizes}
 use Rattle.multiway_sweep.specs.declared.Step.{Step}
 use Rattle.multiway_sweep.specs.declared.Step.the-variants.{Start, End, Done}
-use Rattle.multiway_sweep.proofs.Sorts.{NoEnd}
+use Rattle.multiway_sweep.proofs.Sorts.{Not}
 use Rattle.multiway_sweep.proofs.Front.{front-take, front-move, front-list, front-starts, front-ends}
 use Rattle.join_sweep.specs.Active.{Slots, slots-of, active}
 use Rattle.join_sweep.specs.Stretches.{after, moment-of, StartsAt, Busy, Ready, Joining, Opened}
@@ -157,12 +157,12 @@ module _ {P : Type 0} {w : Width P} {c : Columns P} {ls : List (List Range)} {a 
     later : after last ≡ e + 1
     later = ap after k
 
-    pub closed-else : NoEnd (j .held) → Closed (j .held)
+    pub closed-else : Not 1 (j .held) → Closed (j .held)
     closed-else n = moved g (2 * after last) (omega (arith, later)) (go (j .held) refl n)
       where
-        go : (r : Step) → j .held ≡ r → NoEnd r → Later (2 * after last) r
+        go : (r : Step) → j .held ≡ r → Not 1 r → Later (2 * after last) r
         go (Start y list v z) h n = omega (arith, later, start-due g h)
-        go (End at list z) h n = absurd n
+        go (End at list z) h n = absurd (n refl)
         go Done h n = tt
 
     pub closed-end : {at list : ℕ} {z : Sizes} → j .held ≡ End at list z → (at ≡ e → ⊥) → Closed (End at list z)
@@ -177,16 +177,16 @@ opened {j = j} {start = start} g busy l not = record { joining = g; taken = late
 
 -- the starts of a point are taken
 module _ {P : Type 0} {w : Width P} {c : Columns P} {ls : List (List Range)} {a : Arrays} {s : Slots} {j : JoinSweep} (start : ℕ) (g : Joining w c ls a s j (2 * start)) (busy : Busy start j) where
-  pub opened-else : NoStart (j .held) → Opened w c ls a s j start
+  pub opened-else : Not 0 (j .held) → Opened w c ls a s j start
   opened-else n = opened g busy (go (j .held) refl n) (not (j .held) n)
     where
-      go : (r : Step) → j .held ≡ r → NoStart r → Later (2 * start + 1) r
-      go (Start y list v z) h n = absurd n
+      go : (r : Step) → j .held ≡ r → Not 0 r → Later (2 * start + 1) r
+      go (Start y list v z) h n = absurd (n refl)
       go (End at list z) h n = omega (arith, end-due g h)
       go Done h n = tt
 
-      not : (r : Step) → NoStart r → StartsAt start r → ⊥
-      not (Start y list v z) n k = n
+      not : (r : Step) → Not 0 r → StartsAt start r → ⊥
+      not (Start y list v z) n k = n refl
       not (End at list z) n k = k
       not Done n k = k
 

@@ -1,4 +1,6 @@
 -- What is known of a step where it is not of one sort, and where it took an event. Assumes nothing.
+use Prim.Native.Nat.{ℕ}
+use mathlib.Core.Path.{_≡_, refl, sym, _∙_}
 use mathlib.Core.Logic.{inl, inr}
 use mathlib.Core.List.{List, [], _∷_}
 use native.Mathlib.Omega.{arith}
@@ -13,34 +15,27 @@ use Rattle.multiway_sweep.specs.declared.Step.{Step}
 use Rattle.multiway_sweep.specs.declared.Step.the-variants.{Start, End, Done}
 use Rattle.multiway_sweep.proofs.Step.{the-type}
 
--- a step that took no end, or something
-abbrev pub NoEnd : Step → Type 0
-NoEnd (Start r list value z) = Unit {0}
-NoEnd (End key list z) = ⊥
-NoEnd Done = Unit {0}
+-- a step that is not of the sort k: 0 is a start, 1 an end, 2 nothing
+abbrev pub Not : ℕ → Step → Type 0
+Not k s = tagOf the-type s ≡ k → ⊥
 
-abbrev pub Some : Step → Type 0
-Some (Start r list value z) = Unit {0}
-Some (End key list z) = Unit {0}
-Some Done = ⊥
+other : {k a b : ℕ} (s : Step) → (a ≡ k → ⊥) → (b ≡ k → ⊥) → OneOf (a ∷ b ∷ []) (tagOf the-type s) → Not k s
+other s p q (inl e) h = p (sym e ∙ h)
+other s p q (inr e) h = q (sym e ∙ h)
 
-pub no-start : (s : Step) → OneOf (1 ∷ 2 ∷ []) (tagOf the-type s) → NoStart s
-no-start (Start r list value z) (inl e) = absurd (omega arith)
-no-start (Start r list value z) (inr e) = absurd (omega arith)
-no-start (End key list z) o = tt
-no-start Done o = tt
+pub not-start : (s : Step) → OneOf (1 ∷ 2 ∷ []) (tagOf the-type s) → Not 0 s
+not-start s = other s (λ q. omega arith) (λ q. omega arith)
 
-pub no-end : (s : Step) → OneOf (0 ∷ 2 ∷ []) (tagOf the-type s) → NoEnd s
-no-end (Start r list value z) o = tt
-no-end (End key list z) (inl e) = absurd (omega arith)
-no-end (End key list z) (inr e) = absurd (omega arith)
-no-end Done o = tt
+pub not-end : (s : Step) → OneOf (0 ∷ 2 ∷ []) (tagOf the-type s) → Not 1 s
+not-end s = other s (λ q. omega arith) (λ q. omega arith)
 
-pub some-taken : (s : Step) → OneOf (0 ∷ 1 ∷ []) (tagOf the-type s) → Some s
-some-taken (Start r list value z) o = tt
-some-taken (End key list z) o = tt
-some-taken Done (inl e) = absurd (omega arith)
-some-taken Done (inr e) = absurd (omega arith)
+pub not-done : (s : Step) → OneOf (0 ∷ 1 ∷ []) (tagOf the-type s) → Not 2 s
+not-done s = other s (λ q. omega arith) (λ q. omega arith)
+
+pub no-start : (s : Step) → Not 0 s → NoStart s
+no-start (Start r list value z) n = n refl
+no-start (End key list z) n = tt
+no-start Done n = tt
 
 -- what holds of the event that a step took, and of what is left then
 pub on-step : {C P : Type 0} (w : Width P) (c : Columns P) (a : Arrays) (R : rules.Event ℤ → Type 0) (z : Sizes) (t : Step) {left : List (rules.Event ℤ)} → Holds w c a t left → On R ⊥ t → ((e : rules.Event ℤ) → Took w c a e (sizes-after t z) left → R e → C) → C

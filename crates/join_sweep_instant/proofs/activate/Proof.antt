@@ -11,7 +11,7 @@ use Rattle.rules.specs.Lists.{instants}
 use Rattle.multiway_sweep.specs.Steps.{columns, arrays}
 use Rattle.join_sweep.specs.Active.{slots-of}
 use Rattle.join_sweep.specs.Stretches.{Busy, Joining}
-use Rattle.multiway_sweep.proofs.Sorts.{no-start}
+use Rattle.multiway_sweep.proofs.Sorts.{not-start}
 use Rattle.join_sweep.proofs.Turns.{start-past, start-few, started, opened-else, opened-start}
 use Rattle.join_sweep_instant.proofs.activate.Statement.{statement}
 use Rattle.join_sweep_instant.proofs.activate.Tie as tie
@@ -52,7 +52,7 @@ activate-spec =
     μ-loop
     (λ c. let a : tie.Start Inv-loop μ-loop = search in ((λ ls g. g), a .pre .1))
     (λ c. search needs)
-    (λ c ls g. let l : Loop = search in opened-else _ (l .loop .inv .0 ls g) (l .loop .inv .1) (no-start (l .loop .held) search))
+    (λ c ls g. let l : Loop = search in opened-else _ (l .loop .inv .0 ls g) (l .loop .inv .1) (not-start (l .loop .held) search))
     (λ c ls g. let h : Held = search in let l = turn h in opened-start _ (l .loop .inv .0 ls g) (l .loop .inv .1) (h .held .given .1) (c .if1 .taken))
     (λ c. let h = held c in let l = turn h in let a = entry l in omega (arith, start-few (l .loop .inv .0 (a .pre .0 .0) (a .pre .0 .1)) (h .held .given .1)))
     (λ c. let h = held c in let l = turn h in let a = entry l in omega (arith, start-few (l .loop .inv .0 (a .pre .0 .0) (a .pre .0 .1)) (h .held .given .1)))

@@ -8,7 +8,7 @@ use Rattle.rules.specs.Lists.{seats}
 use Rattle.multiway_sweep.specs.Steps.{columns, arrays}
 use Rattle.join_sweep.specs.Active.{slots-of}
 use Rattle.join_sweep.specs.Stretches.{Joining}
-use Rattle.multiway_sweep.proofs.Sorts.{no-end}
+use Rattle.multiway_sweep.proofs.Sorts.{not-end}
 use Rattle.join_sweep.proofs.Turns.{end-past, end-list, some-active, ended, at-end, closed-none, closed-else, closed-end}
 use Rattle.join_sweep_seat.proofs.deactivate.Statement.{statement}
 use Rattle.join_sweep_seat.proofs.deactivate.Tie as tie
@@ -51,7 +51,7 @@ deactivate-spec =
     (λ c ls g. closed-none (c .enum-told .given .1) g)
     (λ c ls g. g)
     (λ c. search needs)
-    (λ c ls g. let l : Loop = search in let k = last l .last-end .given .1 in closed-else _ k (l .loop .inv ls (at-end k g)) (no-end (l .loop .held) search))
+    (λ c ls g. let l : Loop = search in let k = last l .last-end .given .1 in closed-else _ k (l .loop .inv ls (at-end k g)) (not-end (l .loop .held) search))
     (λ c ls g. let h : Held = search in let l = turn h in let k = last l .last-end .given .1 in closed-end _ k (l .loop .inv ls (at-end k g)) (h .held .given .1) (c .if1 .taken))
     (λ c. let h = held c in let l = turn h in let a = entry l in let k = last l .last-end .given .1 in end-list (l .loop .inv (a .pre .0) (at-end k (a .pre .1))) (h .held .given .1))
     (λ c. let h = held c in let l = turn h in let a = entry l in let k = last l .last-end .given .1 in some-active (l .loop .inv (a .pre .0) (at-end k (a .pre .1))) (h .held .given .1))

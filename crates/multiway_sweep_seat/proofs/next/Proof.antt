@@ -1,7 +1,7 @@
 -- `next` meets its contract. Assumes nothing.
 use borrow.Author.Needs.{needs}
 use Rattle.rules.specs.Lists.{seats}
-use Rattle.multiway_sweep.proofs.Sorts.{some-taken}
+use Rattle.multiway_sweep.proofs.Sorts.{not-done}
 use Rattle.multiway_sweep.proofs.Sweeps.{stayed, went}
 use Rattle.multiway_sweep_seat.proofs.next.Statement.{statement}
 use Rattle.multiway_sweep_seat.proofs.next.Tie as tie
@@ -14,4 +14,4 @@ next-spec =
     (λ c. search needs)
     (λ c rest g. let a : tie.Start = search in let s : tie.After-step = search in stayed seats _ (a .args .sweep) (s .step .result) (c .enum-told .given .1) ((rw (c .enum-told .given .1) at (s .step .ensures rest g)) .1) g)
     (λ c κs. search needs)
-    (λ c rest g. let a : tie.Start = search in let s : tie.After-step = search in went seats _ (a .args .sweep) (s .step .result) _ (some-taken (s .step .result) search) (s .step .ensures rest g) (c .sizes-after .ensures)))
+    (λ c rest g. let a : tie.Start = search in let s : tie.After-step = search in went seats _ (a .args .sweep) (s .step .result) _ (not-done (s .step .result) search) (s .step .ensures rest g) (c .sizes-after .ensures)))
