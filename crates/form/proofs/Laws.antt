@@ -19,9 +19,9 @@ use Rattle.rules.specs.declared.Judgement.the-variants.{Sound, Refused}
 use Rattle.rules.specs.declared.Kind.{Kind}
 use Rattle.rules.proofs.At.{le-or-lt}
 use Rattle.rules.proofs.Faults.{tells-eq, tells-both}
-use Rattle.rules.proofs.Refusals.{sound-limits}
+use Rattle.rules.proofs.Refusals.{sound-agrees, sound-formed}
 use Rattle.rules.proofs.Columns.{ranges-more, ranges-done, cut-more}
-use Rattle.form.specs.Shape.{judge-shape, Long, Low, Found}
+use Rattle.form.specs.Shape.{judge-shape, Long, Low, Looked, Judged}
 
 -- the ways through the check of one range x
 module _ (x : Piece ℕ) where
@@ -146,9 +146,17 @@ module _ {P : Type 0} (w : Width P) (ends : List P) where
   low-join {middle = middle} a b k f h = ⊎-elim (λ e. b k e h) (λ e. a k f e) (le-or-lt middle k)
 
   -- a refusal says nothing of ends
-  pub found-refused : {from stop : ℕ} {j r : Judgement} {a : Answer} → r ≡ j → r ≡ Refused a → Found w ends from stop j r
-  found-refused is e = record { is = is; low = λ h. let z : _≡_ {A = ℕ} 0 1 = cc in absurd (omega arith) }
+  pub looked-refused : {from stop : ℕ} {j r : Judgement} {a : Answer} → r ≡ j → r ≡ Refused a → Looked w ends from stop j r
+  looked-refused is e = record { is = is; low = λ h. let z : _≡_ {A = ℕ} 0 1 = cc in absurd (omega arith) }
 
--- the ends of all lists are all ends
-pub found-all : {P : Type 0} (w : Width P) (k : Kind) (l : Lent P) {j r : Judgement} → Found w (l .ends) 0 (total (l .counts)) j r → r ≡ judge w k l → Found w (l .ends) 0 (length (l .ends)) (judge w k l) r
-found-all w k l f e = record { is = e; low = λ h i m b. let a = sound-limits w k l (sym e ∙ h) .agree in f .low h i m (omega (arith, a .ends-long, a .adds-up)) }
+-- what is refused is judged so; what is sound passes, since the ends of all lists are all ends
+module _ {P : Type 0} (w : Width P) (k : Kind) (l : Lent P) where
+  pub judged-refused : {r : Judgement} {a : Answer} → r ≡ judge w k l → r ≡ Refused a → Judged w k l r
+  judged-refused is e = record { is = is; passes = λ h. let z : _≡_ {A = ℕ} 0 1 = cc in absurd (omega arith) }
+
+  pub judged : {j r : Judgement} → Looked w (l .ends) 0 (total (l .counts)) j r → r ≡ judge w k l → Judged w k l r
+  judged f e =
+      record {
+        is = e;
+        passes = λ h. sound-formed w k l (λ i b. let a = sound-agrees w k l (sym e ∙ h) in f .low h i (omega arith) (omega (arith, a .ends-long, a .adds-up))) (sym e ∙ h);
+      }

@@ -1,3 +1,2 @@
--- The laws of the form checker: Sound for its callers, Laws for its functions. Assumes nothing.
+-- The laws of the form checker. Assumes nothing.
 pub mod Laws
-pub mod Sound

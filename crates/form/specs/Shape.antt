@@ -1,5 +1,5 @@
 -- What is judged before the ranges are looked at, and a range as it is judged. Assumes nothing.
-use Prim.Native.Nat.{ℕ, _≤_, _<_}
+use Prim.Native.Nat.{ℕ, _-_, _≤_, _<_}
 use mathlib.Core.Path.{_≡_}
 use mathlib.Core.Bool.{_&&_, not}
 use mathlib.Core.Option.{Option, none, some}
@@ -7,8 +7,9 @@ use mathlib.Core.List.{List}
 use lib.Dec.{ltb, eqb}
 use lib.ListN.{length}
 use Rattle.rules.specs.Piece.{Piece}
-use Rattle.rules.specs.Lists.{Width, keys, total}
-use Rattle.rules.specs.Answer.{refuse, two-way, unknown-combiner}
+use Rattle.rules.specs.Lists.{Width, Lent, Columns, keys, ranges, cut, total}
+use Rattle.rules.specs.Answer.{refuse, two-way, unknown-combiner, judge, judge-list, judge-lists}
+use Rattle.rules.specs.Refusals.{Formed}
 use Rattle.rules.specs.declared.Answer.the-variants.{TooManyLists, NotTwoLists, TooManyRanges, ColumnsDiffer, UnknownCombiner}
 use Rattle.rules.specs.declared.Judgement.{Judgement}
 use Rattle.rules.specs.declared.Judgement.the-variants.{Sound}
@@ -45,7 +46,19 @@ pub record Long {P : Type 0} {A : Type 0} (starts ends : List P) (values : List 
 abbrev pub Low : {P : Type 0} → Width P → List P → ℕ → ℕ → Type 0
 Low w ends from stop = (i : ℕ) → from ≤ i → i < stop → keys w ends i < w .points
 
+-- the judgement of the list at places from `from` up to but not `stop`, and of the lists that lie end to end
+abbrev pub one-list : {P : Type 0} → Width P → Columns P → Columns P → ℕ → ℕ → Judgement
+one-list w s e from stop = judge-list none (ranges (keys w (s .entry .now)) (keys w (e .entry .now)) (λ i. i) from (stop - from))
+
+abbrev pub end-to-end : {P : Type 0} → Width P → Columns P → Columns P → Columns ℕ → Judgement
+end-to-end w s e n = judge-lists (cut (keys w (s .entry .now)) (keys w (e .entry .now)) (λ i. i) 0 (n .entry .now))
+
+-- r is the judgement of what is lent, and where nothing is refused it passes
+pub record Judged {P : Type 0} (w : Width P) (k : Kind) (l : Lent P) (r : Judgement) : Type 0 where
+  pub is : r ≡ judge w k l
+  pub passes : r ≡ Sound → Formed w k l
+
 -- r is the judgement j, and where it is sound the ends that it is about are points
-pub record Found {P : Type 0} (w : Width P) (ends : List P) (from stop : ℕ) (j r : Judgement) : Type 0 where
+pub record Looked {P : Type 0} (w : Width P) (ends : List P) (from stop : ℕ) (j r : Judgement) : Type 0 where
   pub is : r ≡ j
   pub low : r ≡ Sound → Low w ends from stop

@@ -9,7 +9,7 @@ use native.Mathlib.Omega.{arith}
 use lib.Dec.{ltb, eqb}
 use borrow.Author.Tests.{ltb-true, ltb-false, eqb-true, eqb-false}
 use Rattle.rules.specs.Piece.{Piece, at, column, Within, AllWellFormed}
-use Rattle.rules.specs.Runs.{insert, edges, cuts, line}
+use Rattle.rules.specs.Runs.{enter, edges, cuts, line}
 use Rattle.rules.specs.Proving.Below.{nones}
 use Rattle.rules.proofs.At.{within-le, at-in, at-before, at-after}
 
@@ -35,32 +35,32 @@ abbrev pub Outside : List ℕ → ℕ → Type 0
 Outside [] p = Unit {0}
 Outside (c ∷ cs) p = (p < c) ⊎ (last c cs ≤ p)
 
--- the three cases of `insert`
-module _ (k c : ℕ) (cs : List ℕ) (P : List ℕ → Type 0) (less : k < c → P (k ∷ c ∷ cs)) (equal : k ≡ c → P (c ∷ cs)) (more : c < k → P (c ∷ insert k cs)) where
-  insert-cases : P (insert k (c ∷ cs))
-  insert-cases = go (ltb k c) (eqb k c) refl refl
+-- the three cases of `enter`
+module _ (k c : ℕ) (cs : List ℕ) (P : List ℕ → Type 0) (less : k < c → P (k ∷ c ∷ cs)) (equal : k ≡ c → P (c ∷ cs)) (more : c < k → P (c ∷ enter k cs)) where
+  enter-cases : P (enter k (c ∷ cs))
+  enter-cases = go (ltb k c) (eqb k c) refl refl
     where
-      go : (s t : Bool) → ltb k c ≡ s → eqb k c ≡ t → P (cond s (k ∷ c ∷ cs) (cond t (c ∷ cs) (c ∷ insert k cs)))
+      go : (s t : Bool) → ltb k c ≡ s → eqb k c ≡ t → P (cond s (k ∷ c ∷ cs) (cond t (c ∷ cs) (c ∷ enter k cs)))
       go true t e u = less (ltb-true k c e)
       go false true e u = equal (eqb-true k c u)
       go false false e u = more (omega (arith, ltb-false k c e, eqb-false k c u))
 
-insert-rising : (k c : ℕ) (cs : List ℕ) → Rising c cs → c < k → Rising c (insert k cs)
-insert-rising k c [] r h = (h, tt)
-insert-rising k c (d ∷ ds) r h = insert-cases k d ds (Rising c) (λ l. (h, (l, r .1))) (λ e. r) (λ l. (r .0, insert-rising k d ds (r .1) l))
+enter-rising : (k c : ℕ) (cs : List ℕ) → Rising c cs → c < k → Rising c (enter k cs)
+enter-rising k c [] r h = (h, tt)
+enter-rising k c (d ∷ ds) r h = enter-cases k d ds (Rising c) (λ l. (h, (l, r .1))) (λ e. r) (λ l. (r .0, enter-rising k d ds (r .1) l))
 
-insert-sorted : (k : ℕ) (cs : List ℕ) → Sorted cs → Sorted (insert k cs)
-insert-sorted k [] r = tt
-insert-sorted k (c ∷ cs) r = insert-cases k c cs Sorted (λ l. (l, r)) (λ e. r) (λ l. insert-rising k c cs r l)
+enter-sorted : (k : ℕ) (cs : List ℕ) → Sorted cs → Sorted (enter k cs)
+enter-sorted k [] r = tt
+enter-sorted k (c ∷ cs) r = enter-cases k c cs Sorted (λ l. (l, r)) (λ e. r) (λ l. enter-rising k c cs r l)
 
-insert-in : (k : ℕ) (cs : List ℕ) → In k (insert k cs)
-insert-in k [] = inl refl
-insert-in k (c ∷ cs) = insert-cases k c cs (In k) (λ l. inl refl) (λ e. inl e) (λ l. inr (insert-in k cs))
+enter-in : (k : ℕ) (cs : List ℕ) → In k (enter k cs)
+enter-in k [] = inl refl
+enter-in k (c ∷ cs) = enter-cases k c cs (In k) (λ l. inl refl) (λ e. inl e) (λ l. inr (enter-in k cs))
 
-insert-keeps : (k j : ℕ) (cs : List ℕ) → In j cs → In j (insert k cs)
-insert-keeps k j [] i = inr i
-insert-keeps k j (c ∷ cs) (inl e) = insert-cases k c cs (In j) (λ l. inr (inl e)) (λ q. inl e) (λ l. inl e)
-insert-keeps k j (c ∷ cs) (inr i) = insert-cases k c cs (In j) (λ l. inr (inr i)) (λ q. inr i) (λ l. inr (insert-keeps k j cs i))
+enter-keeps : (k j : ℕ) (cs : List ℕ) → In j cs → In j (enter k cs)
+enter-keeps k j [] i = inr i
+enter-keeps k j (c ∷ cs) (inl e) = enter-cases k c cs (In j) (λ l. inr (inl e)) (λ q. inl e) (λ l. inl e)
+enter-keeps k j (c ∷ cs) (inr i) = enter-cases k c cs (In j) (λ l. inr (inr i)) (λ q. inr i) (λ l. inr (enter-keeps k j cs i))
 
 pub in-rising : (c k : ℕ) (cs : List ℕ) → Rising c cs → In k cs → c < k
 in-rising c k (d ∷ ds) r (inl e) = omega arith
@@ -79,9 +79,9 @@ abbrev pub Upto : ℕ → List ℕ → Type 0
 Upto n [] = Unit {0}
 Upto n (c ∷ cs) = (c ≤ n) × Upto n cs
 
-insert-upto : (n k : ℕ) (cs : List ℕ) → k ≤ n → Upto n cs → Upto n (insert k cs)
-insert-upto n k [] h u = (h, tt)
-insert-upto n k (c ∷ cs) h u = insert-cases k c cs (Upto n) (λ l. (h, u)) (λ e. u) (λ l. (u .0, insert-upto n k cs h (u .1)))
+enter-upto : (n k : ℕ) (cs : List ℕ) → k ≤ n → Upto n cs → Upto n (enter k cs)
+enter-upto n k [] h u = (h, tt)
+enter-upto n k (c ∷ cs) h u = enter-cases k c cs (Upto n) (λ l. (h, u)) (λ e. u) (λ l. (u .0, enter-upto n k cs h (u .1)))
 
 pub last-upto : (n c : ℕ) (cs : List ℕ) → Upto n (c ∷ cs) → last c cs ≤ n
 last-upto n c [] u = u .0
@@ -107,11 +107,11 @@ module _ {A : Type 0} where
 
   edges-sorted : (l : List (Piece A)) (cs : List ℕ) → Sorted cs → Sorted (edges l cs)
   edges-sorted [] cs s = s
-  edges-sorted (x ∷ xs) cs s = insert-sorted (x .start) (insert (x .end + 1) (edges xs cs)) (insert-sorted (x .end + 1) (edges xs cs) (edges-sorted xs cs s))
+  edges-sorted (x ∷ xs) cs s = enter-sorted (x .start) (enter (x .end + 1) (edges xs cs)) (enter-sorted (x .end + 1) (edges xs cs) (edges-sorted xs cs s))
 
   -- both edges of x go in
-  edge-keeps : (x : Piece A) (j : ℕ) (cs : List ℕ) → In j cs → In j (insert (x .start) (insert (x .end + 1) cs))
-  edge-keeps x j cs i = insert-keeps (x .start) j (insert (x .end + 1) cs) (insert-keeps (x .end + 1) j cs i)
+  edge-keeps : (x : Piece A) (j : ℕ) (cs : List ℕ) → In j cs → In j (enter (x .start) (enter (x .end + 1) cs))
+  edge-keeps x j cs i = enter-keeps (x .start) j (enter (x .end + 1) cs) (enter-keeps (x .end + 1) j cs i)
 
   edges-keep : (j : ℕ) (l : List (Piece A)) (cs : List ℕ) → In j cs → In j (edges l cs)
   edges-keep j [] cs i = i
@@ -121,14 +121,14 @@ module _ {A : Type 0} where
   edges-in [] cs = tt
   edges-in (x ∷ xs) cs =
       let ds = edges xs cs in
-      let es = insert (x .end + 1) ds in
-      (insert-in (x .start) es, insert-keeps (x .start) (x .end + 1) es (insert-in (x .end + 1) ds), map-edges (λ k i. edge-keeps x k ds i) xs (edges-in xs cs))
+      let es = enter (x .end + 1) ds in
+      (enter-in (x .start) es, enter-keeps (x .start) (x .end + 1) es (enter-in (x .end + 1) ds), map-edges (λ k i. edge-keeps x k ds i) xs (edges-in xs cs))
 
   edges-upto : (c n : ℕ) (l : List (Piece A)) (cs : List ℕ) → Within c n l → Upto n cs → Upto n (edges l cs)
   edges-upto c n [] cs w u = u
   edges-upto c n (x ∷ xs) cs w u =
       let h = within-le (x .end + 1) n xs (w .2) in
-      insert-upto n (x .start) (insert (x .end + 1) (edges xs cs)) (omega arith) (insert-upto n (x .end + 1) (edges xs cs) h (edges-upto (x .end + 1) n xs cs (w .2) u))
+      enter-upto n (x .start) (enter (x .end + 1) (edges xs cs)) (omega arith) (enter-upto n (x .end + 1) (edges xs cs) h (edges-upto (x .end + 1) n xs cs (w .2) u))
 
 -- cs ascends up to n and holds every edge of ls
 pub record Cutting {A : Type 0} (n : ℕ) (ls : List (List (Piece A))) (cs : List ℕ) : Type 0 where
@@ -153,17 +153,17 @@ module _ {A : Type 0} (n : ℕ) where
     unfolding line
     line-cutting =
         let rest = cuts-cutting ls w in
-        let cs = insert n (cuts ls) in
+        let cs = enter n (cuts ls) in
         record {
-          sorted = insert-sorted 0 cs (insert-sorted n (cuts ls) (rest .sorted));
-          upto = insert-upto n 0 cs (omega arith) (insert-upto n n (cuts ls) (omega arith) (rest .upto));
-          has = map-all (λ k i. insert-keeps 0 k cs (insert-keeps n k (cuts ls) i)) ls (rest .has);
+          sorted = enter-sorted 0 cs (enter-sorted n (cuts ls) (rest .sorted));
+          upto = enter-upto n 0 cs (omega arith) (enter-upto n n (cuts ls) (omega arith) (rest .upto));
+          has = map-all (λ k i. enter-keeps 0 k cs (enter-keeps n k (cuts ls) i)) ls (rest .has);
         }
 
     -- no point of the line is outside its cuts
     pub line-whole : (p : ℕ) → p < n → Outside (line n ls) p → ⊥
     unfolding line
-    line-whole p h = go (line n ls) (line-cutting .sorted) (insert-in 0 (insert n (cuts ls))) (insert-keeps 0 n (insert n (cuts ls)) (insert-in n (cuts ls)))
+    line-whole p h = go (line n ls) (line-cutting .sorted) (enter-in 0 (enter n (cuts ls))) (enter-keeps 0 n (enter n (cuts ls)) (enter-in n (cuts ls)))
       where
         go : (cs : List ℕ) → Sorted cs → In 0 cs → In n cs → Outside cs p → ⊥
         go (c ∷ cs) s (inl q) high (inl l) = omega arith

@@ -7,7 +7,7 @@ use mathlib.Core.Option.{Option, none, some}
 use mathlib.Core.List.{List, [], _∷_}
 use native.Mathlib.Omega.{arith}
 use lib.Dec.{ltb, leb, eqb}
-use borrow.Author.Tests.{ltb-true, ltb-false, leb-true, leb-false, eqb-true, eqb-false, lt-ltb, le-ltb}
+use borrow.Author.Tests.{ltb-true, ltb-false, leb-true, leb-false, eqb-true, eqb-false, lt-ltb, le-ltb, lt-leb}
 use Rattle.rules.proofs.At.{le-or-lt}
 use Rattle.rules.specs.Piece.{Within, AllWellFormed}
 use Rattle.rules.specs.Lists.{range, ranges, cut, total}
@@ -50,6 +50,11 @@ tells-as f g h = record { yes = λ q. f (h .yes q); no = λ q y. h .no q (g y) }
 pub tells-holds : {t : Bool} {X : Type 0} → Tells t X → ((X → ⊥) → ⊥) → X
 tells-holds {t = true} h n = h .yes refl
 tells-holds {t = false} h n = absurd (n (h .no refl))
+
+-- the test of what fails is false
+pub tells-not-holds : {t : Bool} {X : Type 0} → Tells t X → (X → ⊥) → t ≡ false
+tells-not-holds {t = true} h n = absurd (n (h .yes refl))
+tells-not-holds {t = false} h n = refl
 
 -- a names what is wrong at a place: it is backward, or, if not, it overlaps
 pub data Names (B O : ℕ → Type 0) : Answer → ℕ → Type 0 where
@@ -156,6 +161,36 @@ after (some p) = p + 1
 beyond : (o : Option ℕ) (p : ℕ) → overlaps o p ≡ false → after o ≤ p
 beyond none p h = omega arith
 beyond (some q) p h = omega (arith, leb-false p q h)
+
+not-over : (o : Option ℕ) (p : ℕ) → after o ≤ p → overlaps o p ≡ false
+not-over none p h = refl
+not-over (some q) p h = lt-leb p q (omega arith)
+
+-- and what is refused nowhere is sound
+pub not-refused : {t : Bool} (a : Answer) {next : Judgement} → t ≡ false → next ≡ Sound → refuse t a next ≡ Sound
+not-refused a p q = rw (p, q)
+
+-- well-formed lists have no fault
+module _ (s e : ℕ → ℕ) (points : ℕ) where
+  clear : (o : Option ℕ) (i m : ℕ) → Within (after o) points (ranges s e (λ i. i) i m) → judge-list o (ranges s e (λ i. i) i m) ≡ Sound
+  clear o i zero w = refl
+  clear o i (suc m) w =
+      let r : judge-range o (range s e (λ i. i) i) ≡ Sound = not-refused (Backward i) (le-ltb (e i) (s i) (w .1)) (not-refused (Overlap i) (not-over o (s i) (w .0)) refl) in
+      rw r (clear (some (e i)) (suc i) m (w .2))
+
+  pub all-clear : (i : ℕ) (ns : List ℕ) → AllWellFormed points (cut s e (λ i. i) i ns) → judge-lists (cut s e (λ i. i) i ns) ≡ Sound
+  all-clear i [] w = refl
+  all-clear i (m ∷ ns) w = rw (clear none i m (w .0)) (all-clear (i + m) ns (w .1))
+
+-- well-formed lists are so whatever their values are
+module _ {A B : Type 0} (s e : ℕ → ℕ) (v : ℕ → A) (u : ℕ → B) (points : ℕ) where
+  within-values : (c i m : ℕ) → Within c points (ranges s e v i m) → Within c points (ranges s e u i m)
+  within-values c i zero w = w
+  within-values c i (suc m) w = (w .0, w .1, within-values (e i + 1) (suc i) m (w .2))
+
+  pub formed-values : (i : ℕ) (ns : List ℕ) → AllWellFormed points (cut s e v i ns) → AllWellFormed points (cut s e u i ns)
+  formed-values i [] w = tt
+  formed-values i (m ∷ ns) w = (within-values 0 i m (w .0), formed-values (i + m) ns (w .1))
 
 -- lists with no fault, at places below n whose ends are among the points, are well formed whatever their values are
 module _ {A : Type 0} (s e : ℕ → ℕ) (v : ℕ → A) (points n : ℕ) (low : (i : ℕ) → i < n → e i < points) where

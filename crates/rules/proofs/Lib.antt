@@ -1,4 +1,4 @@
--- The laws of document 01: Condition3, TwoWay and Meets, Sweep, Refusals, Room, Sheet. The other modules serve them.
+-- The laws of document 01: TwoWay and Meets, Sweep, Refusals, Room. The other modules serve them.
 pub mod At
 pub mod Unique
 pub mod Push
@@ -7,7 +7,6 @@ pub mod Fronts
 pub mod Cuts
 pub mod Runs
 pub mod Same
-pub mod Condition3
 pub mod TwoWay
 pub mod Meets
 pub mod Sweep
@@ -15,5 +14,4 @@ pub mod Faults
 pub mod Refusals
 pub mod Room
 pub mod Passes
-pub mod Sheet
 pub mod Said

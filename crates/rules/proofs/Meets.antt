@@ -10,10 +10,15 @@ use lib.Dec.{leb}
 use borrow.Author.Tests.{le-leb, leb-true}
 use Rattle.rules.specs.Piece.{Piece, at, holds, Within, WellFormed, Differ}
 use Rattle.rules.specs.Lists.{ranges}
-use Rattle.rules.specs.TwoWay.{inner, Match, pair-rule, paired, meet, meet-all, meets}
-use Rattle.rules.specs.Selections.{either}
+use Rattle.rules.specs.TwoWay.{Match, pair-rule, paired, meet, meet-all, meets}
+use Rattle.rules.specs.declared.Pairing.the-variants.{Inner}
 use Rattle.rules.proofs.At.{at-in, at-before, at-after, le-or-lt}
 use Rattle.rules.proofs.TwoWay.{within-low, paired-only}
+
+-- the first of two that is there
+abbrev either : {A : Type 0} → Option A → Option A → Option A
+either none b = b
+either (some a) b = some a
 
 module _ {A : Type 0} where
   at-append : (xs ys : List (Piece A)) (p : ℕ) → at (xs ++ ys) p ≡ either (at xs p) (at ys p)
@@ -61,7 +66,7 @@ module _ {A : Type 0} where
 
 -- both, where both are there
 abbrev both : Option ℕ → Option ℕ → Option Match
-both a b = pair-rule inner (a ∷ b ∷ [])
+both a b = pair-rule Inner (a ∷ b ∷ [])
 
 both-none : (a : Option ℕ) → both a none ≡ none
 both-none none = refl
@@ -155,8 +160,8 @@ distinct-meets (x ∷ xs) ys d f = distinct-append (meet-all x ys) (meets xs ys)
     other v = each-meets (λ o. (some (x .value), some v) ≢ o) xs ys (each-map (λ u g. each-any (λ t q. g (let r : some (x .value) ≡ some u = λ i. q i .0 in cc)) ys) xs (d .0))
 
 -- one piece for every left range and right range that share a point
-pub paired-inner : (n : ℕ) (l r : List (Piece ℕ)) → WellFormed n l → WellFormed n r → Distinct l → Distinct r → paired inner n (l ∷ r ∷ []) ≡ meets l r
-paired-inner n l r u w d f = sym (paired-only inner n l r u w (meets l r) (record { canonical = (meets-within 0 0 n l r u w, distinct-differ (meets l r) (distinct-meets l r d f)); agrees = λ p h. meets-at p l r }))
+pub paired-inner : (n : ℕ) (l r : List (Piece ℕ)) → WellFormed n l → WellFormed n r → Distinct l → Distinct r → paired Inner n (l ∷ r ∷ []) ≡ meets l r
+paired-inner n l r u w d f = sym (paired-only Inner n l r u w (meets l r) (record { canonical = (meets-within 0 0 n l r u w, distinct-differ (meets l r) (distinct-meets l r d f)); agrees = λ p h. meets-at p l r }))
 
 -- lists as they are lent
 module _ (s e : ℕ → ℕ) where
@@ -171,5 +176,5 @@ module _ (s e : ℕ → ℕ) where
   places-distinct i zero = tt
   places-distinct i (suc m) = (places-past i (suc i) m (omega arith), places-distinct (suc i) m)
 
-  pub lent-inner : (n i m j k : ℕ) → WellFormed n (places i m) → WellFormed n (places j k) → paired inner n (places i m ∷ places j k ∷ []) ≡ meets (places i m) (places j k)
+  pub lent-inner : (n i m j k : ℕ) → WellFormed n (places i m) → WellFormed n (places j k) → paired Inner n (places i m ∷ places j k ∷ []) ≡ meets (places i m) (places j k)
   lent-inner n i m j k u w = paired-inner n (places i m) (places j k) u w (places-distinct i m) (places-distinct j k)

@@ -7,18 +7,17 @@ use mathlib.Core.List.{[], _∷_}
 use native.Mathlib.Omega.{arith}
 use native.Mathlib.Nat.{sub-zero, eq-or-lt-of-le, le-of-suc-le-suc}
 use lib.ListN.{length, getD}
-use borrow.Author.Tests.{le-leb, lt-leb}
+use borrow.Author.Tests.{le-ltb, le-leb, lt-leb}
 use Rattle.rules.proofs.At.{le-or-lt}
-use Rattle.rules.specs.Piece.{AllWellFormed}
-use Rattle.rules.specs.Lists.{Width, Lent, keys, cut, tracks}
+use Rattle.rules.specs.Lists.{Width, Lent, keys, tracks}
 use Rattle.rules.specs.Answer.{code-of, refuse, judge-lists, two-way, unknown-combiner, agree, judge, Outcome, settle}
-use Rattle.rules.specs.Refusals.{turn, Agree, IsBackward, IsOverlap, FirstFault, Due, Given}
+use Rattle.rules.specs.Refusals.{turn, Agree, Formed, IsBackward, IsOverlap, FirstFault, Due, Given}
 use Rattle.rules.specs.declared.Answer.{Answer}
 use Rattle.rules.specs.declared.Answer.the-variants.{Done, TooManyLists, NotTwoLists, TooManyRanges, ColumnsDiffer, Backward, Overlap, UnknownCombiner, NoRoom}
 use Rattle.rules.specs.declared.Judgement.{Judgement}
 use Rattle.rules.specs.declared.Judgement.the-variants.{Sound, Refused}
 use Rattle.rules.specs.declared.Kind.{Kind}
-use Rattle.rules.proofs.Faults.{Tells, tells-true, tells-lt, tells-le, tells-eq, tells-not, tells-both, tells-as, tells-holds, Names, backward, overlap, names-fault, Fault, Finds, sound, refused, fault-only, finds-lists, all-formed}
+use Rattle.rules.proofs.Faults.{Tells, tells-true, tells-lt, tells-le, tells-eq, tells-not, tells-both, tells-as, tells-holds, tells-not-holds, Names, backward, overlap, names-fault, Fault, Finds, sound, refused, fault-only, finds-lists, not-refused, all-clear, all-formed}
 
 module _ {C : Type 0} (needed room : ℕ) (before after : C) where
   fits : needed ≤ room → settle Sound needed room before after ≡ record { answer = Done needed; columns = after }
@@ -174,35 +173,40 @@ module _ {P : Type 0} (w : Width P) (k : Kind) (l : Lent P) (needed room : ℕ) 
       go : Told (Refused a) → turn a < 6
       go (one-due low s) = low
 
--- lists that are within the limits of an operation
-pub record Fit {P : Type 0} (k : Kind) (l : Lent P) : Type 0 where
-  pub lists-few : length (l .counts) ≤ 16
-  pub agree : Agree l
-  pub ranges-few : length (l .starts) ≤ 2048
-  pub two : two-way k ≡ true → length (l .counts) ≡ 2
-  pub known-combiner : unknown-combiner k ≡ false
-
 -- what holds where nothing is refused before an operation runs
-module _ {P : Type 0} (w : Width P) (k : Kind) (l : Lent P) (h : judge w k l ≡ Sound) where
-  passed : Clear w k l 0 0 6 × (judge-lists (tracks w l) ≡ Sound)
-  passed = go (rw h at (told w k l 0 0))
+module _ {P : Type 0} (w : Width P) (k : Kind) (l : Lent P) where
+  passed : judge w k l ≡ Sound → Clear w k l 0 0 6 × (judge-lists (tracks w l) ≡ Sound)
+  passed h = go (rw h at (told w k l 0 0))
     where
       go : Told w k l 0 0 Sound → Clear w k l 0 0 6 × (judge-lists (tracks w l) ≡ Sound)
       go (none-due clear s) = (clear, s)
 
-  pub sound-limits : Fit k l
-  sound-limits =
-      let c : Clear w k l 0 0 6 = passed .0 in
+  pub sound-agrees : judge w k l ≡ Sound → Agree l
+  sound-agrees h = let c : Clear w k l 0 0 6 = passed h .0 in tells-holds (agree-tells l) (c ColumnsDiffer (omega arith))
+
+  -- each end is a point
+  pub sound-formed : ((i : ℕ) → i < length (l .ends) → keys w (l .ends) i < w .points) → judge w k l ≡ Sound → Formed w k l
+  sound-formed low h =
+      let c : Clear w k l 0 0 6 = passed h .0 in
+      let agree = sound-agrees h in
       record {
         lists-few = omega (arith, c TooManyLists (omega arith));
-        agree = tells-holds (agree-tells l) (c ColumnsDiffer (omega arith));
-        ranges-few = omega (arith, c TooManyRanges (omega arith));
         two = λ z. tells-holds (tells-eq _ 2) (λ n. c NotTwoLists (omega arith) (z, n));
+        agree = agree;
+        ranges-few = omega (arith, c TooManyRanges (omega arith));
         known-combiner = not-eq-not .0 (c UnknownCombiner (omega arith));
+        formed = all-formed _ _ (λ i. i) _ _ low 0 (l .counts) (omega (arith, agree .ends-long, agree .adds-up)) (passed h .1);
       }
 
-  pub sound-lists : ((i : ℕ) → i < length (l .ends) → keys w (l .ends) i < w .points) → {A : Type 0} (v : ℕ → A) → AllWellFormed (w .points) (cut (keys w (l .starts)) (keys w (l .ends)) v 0 (l .counts))
-  sound-lists low v = all-formed _ _ v _ _ low 0 (l .counts) (omega (arith, sound-limits .agree .ends-long, sound-limits .agree .adds-up)) (passed .1)
+  -- well-formed lists within the limits are judged sound
+  pub formed-sound : Formed w k l → judge w k l ≡ Sound
+  unfolding judge
+  formed-sound f =
+      not-refused TooManyLists (le-ltb 16 _ (f .lists-few))
+      (not-refused NotTwoLists (tells-not-holds (tells-both (tells-true (two-way k)) (tells-not (tells-eq (length (l .counts)) 2))) (λ h. h .1 (f .two (h .0))))
+      (not-refused ColumnsDiffer (tells-not-holds (tells-not (agree-tells l)) (λ n. n (f .agree)))
+      (not-refused TooManyRanges (le-ltb 2048 _ (f .ranges-few))
+      (not-refused UnknownCombiner (f .known-combiner) (all-clear _ _ (w .points) 0 (l .counts) (f .formed))))))
 
 -- two answers that conform to one outcome are equal
 pub determined : {C : Type 0} (o o' e : Outcome C) → o ≡ e → o' ≡ e → (o .answer ≡ o' .answer) × (o .columns ≡ o' .columns)

@@ -1,6 +1,7 @@
 -- The tests decide equality. Assumes nothing.
 use Prim.Native.Nat.{ℕ}
-use mathlib.Core.Path.{_≡_, refl, ap}
+use mathlib.Core.Path.{_≡_, refl, sym, ap}
+use mathlib.Core.Logic.{_≢_}
 use mathlib.Core.Bool.{Bool, true, false, _&&_, true≢false, false≢true}
 use mathlib.Core.Option.{Option, none, some}
 use native.Mathlib.Omega.{arith}
@@ -9,6 +10,10 @@ use lib.Dec.{eqb}
 use borrow.Author.Tests.{eqb-true, eqb-false}
 use Rattle.rules.specs.Same.{Decides, eqℤ, eqOption, eqPair}
 use Rattle.rules.specs.TwoWay.{same-match}
+
+-- nothing is not something
+pub none≢some : {A : Type 0} (v : A) → none ≢ some v
+none≢some v e = let z : _≡_ {A = ℕ} 0 1 = cc in omega arith
 
 decides-ℕ : Decides eqb
 decides-ℕ = record { equal = eqb-true; differ = eqb-false }
@@ -40,8 +45,8 @@ module _ {A : Type 0} (same : A → A → Bool) (law : Decides same) where
 
       differ : (a b : Option A) → eqOption same a b ≡ false → a ≡ b → ⊥
       differ none none e q = true≢false e
-      differ none (some b) e q = let z : _≡_ {A = ℕ} 0 1 = cc in omega arith
-      differ (some a) none e q = let z : _≡_ {A = ℕ} 0 1 = cc in omega arith
+      differ none (some b) e q = none≢some b q
+      differ (some a) none e q = none≢some a (sym q)
       differ (some a) (some b) e q = law .differ a b e (cc)
 
   pub decides-pair : {B : Type 0} (like : B → B → Bool) → Decides like → Decides (eqPair same like)

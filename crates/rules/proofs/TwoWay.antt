@@ -1,5 +1,5 @@
 -- Two-way operations: what each cuts and keeps, and that values alter no start, end or presence. Assumes nothing.
-use Prim.Native.Nat.{ℕ, _+_, _-_, _≤_, _<_}
+use Prim.Native.Nat.{ℕ, _+_, _-_, _≤_, _<_, min}
 use mathlib.Core.Path.{_≡_, refl, sym, _∙_, ap}
 use mathlib.Core.Logic.{_⊎_, inl, inr}
 use mathlib.Core.Bool.{Bool, true, false, cond}
@@ -8,13 +8,16 @@ use mathlib.Core.List.{List, [], _∷_}
 use native.Mathlib.Omega.{arith}
 use lib.Dec.{leb}
 use lib.IntN.{ℤ, pos}
-use lib.ListN.{length, getD, length-append, length-map, length-drop}
+use lib.ListN.{length, getD, length-append, length-map, length-take, length-drop}
 use Rattle.rules.specs.Piece.{Piece, at, Within, WellFormed, Apart, Differ}
 use Rattle.rules.specs.Runs.{says}
 use Rattle.rules.specs.Lists.{Width, Lent, tracks}
-use Rattle.rules.specs.Answer.{Outcome, judge, settle, front}
-use Rattle.rules.specs.TwoWay.{Pairing, inner, left, full, Match, keeps, pair-rule, same-match, paired, kept}
-use Rattle.rules.specs.Outcomes.{Paired, paired-room, lay-paired, pairing}
+use Rattle.rules.specs.Answer.{Outcome, judge, settle, laid}
+use Rattle.rules.specs.declared.Pairing.{Pairing}
+use Rattle.rules.specs.declared.Pairing.the-variants.{Inner, Left, Full}
+use Rattle.rules.specs.TwoWay.{Match, keeps, pair-rule, same-match, paired, kept}
+use Rattle.rules.specs.Paired.{Paired, room, lay}
+use Rattle.rules.specs.Outcomes.{pairing}
 use Rattle.rules.specs.Proving.Below.{Below}
 use Rattle.rules.specs.declared.Answer.the-variants.{Done, NoRoom}
 use Rattle.rules.specs.declared.Judgement.{Judgement}
@@ -101,18 +104,18 @@ kept-only o [] = refl
 kept-only o (x ∷ xs) = rw (kept-only o xs)
 
 -- full keeps whatever another keeps
-full-keeps : (o : Pairing) (a b : Option ℕ) → passed (keeps o) (cond (keeps full (a, b)) (some (a, b)) none) ≡ cond (keeps o (a, b)) (some (a, b)) none
+full-keeps : (o : Pairing) (a b : Option ℕ) → passed (keeps o) (cond (keeps Full (a, b)) (some (a, b)) none) ≡ cond (keeps o (a, b)) (some (a, b)) none
 full-keeps o (some i) b = refl
 full-keeps o none (some j) = refl
-full-keeps inner none none = refl
-full-keeps left none none = refl
-full-keeps full none none = refl
+full-keeps Inner none none = refl
+full-keeps Left none none = refl
+full-keeps Full none none = refl
 
 -- each operation is the same cutting, with the runs that it keeps
-pub paired-kept : (o : Pairing) (n : ℕ) (l r : List (Piece ℕ)) → WellFormed n l → WellFormed n r → paired o n (l ∷ r ∷ []) ≡ kept o (paired full n (l ∷ r ∷ []))
+pub paired-kept : (o : Pairing) (n : ℕ) (l r : List (Piece ℕ)) → WellFormed n l → WellFormed n r → paired o n (l ∷ r ∷ []) ≡ kept o (paired Full n (l ∷ r ∷ []))
 paired-kept o n l r u w =
-    let xs = paired full n (l ∷ r ∷ []) in
-    let b = only-below (keeps o) n xs _ (paired-cut full n l r u w) in
+    let xs = paired Full n (l ∷ r ∷ []) in
+    let b = only-below (keeps o) n xs _ (paired-cut Full n l r u w) in
     sym (kept-only o xs ∙ paired-only o n l r u w (only (keeps o) xs) (record { canonical = b .canonical; agrees = λ p h. b .agrees p h ∙ full-keeps o (at l p) (at r p) }))
 
 -- two sets that differ in their values alone
@@ -135,8 +138,8 @@ pub record AlikeOutcomes {P : Type 0} (a b : Outcome (Paired P)) : Type 0 where
   pub answer : a .answer ≡ b .answer
   pub columns : Alike (a .columns) (b .columns)
 
-front-long : {A R : Type 0} (f : R → A) (xs : List R) (l : List A) → length (front f xs l) ≡ length xs + (length l - length xs)
-front-long f xs l = simp (length-append, length-map, length-drop)
+laid-length : {A R : Type 0} (n : ℕ) (f : R → A) (xs : List R) (l : List A) → length (laid n f xs l) ≡ min n (length l) + (length xs + (length l - (n + length xs)))
+laid-length n f xs l = simp (length-append, length-take, length-map, length-drop)
 
 module _ {P : Type 0} where
   settle-alike : (j : Judgement) (needed room : ℕ) (b b' a a' : Paired P) → Alike b b' → Alike a a' → AlikeOutcomes (settle j needed room b a) (settle j needed room b' a')
@@ -148,17 +151,17 @@ module _ {P : Type 0} where
       go false = record { answer = refl; columns = h }
 
   module _ (w : Width P) where
-    lay-alike : (v v' : ℕ → ℤ) (xs : List (Piece Match)) (c c' : Paired P) → Alike c c' → Alike (lay-paired w v xs c) (lay-paired w v' xs c')
+    lay-alike : (v v' : ℕ → ℤ) (xs : List (Piece Match)) (c c' : Paired P) → Alike c c' → Alike (lay w v 0 xs c) (lay w v' 0 xs c')
     lay-alike v v' xs c c' h =
         record {
-          start = ap (front _ xs) (h .start);
-          end = ap (front _ xs) (h .end);
-          presence = ap (front _ xs) (h .presence);
-          left = simp (front-long, h .left);
-          right = simp (front-long, h .right);
+          start = ap (laid 0 _ xs) (h .start);
+          end = ap (laid 0 _ xs) (h .end);
+          presence = ap (laid 0 _ xs) (h .presence);
+          left = simp (laid-length, h .left);
+          right = simp (laid-length, h .right);
         }
 
-    room-alike : (c c' : Paired P) → Alike c c' → paired-room w c ≡ paired-room w c'
+    room-alike : (c c' : Paired P) → Alike c c' → room c ≡ room c'
     room-alike c c' h = rw (h .start, h .end, h .presence, h .left, h .right)
 
     -- changing values while starts and ends stay alters no piece's start, end or presence
@@ -167,4 +170,4 @@ module _ {P : Type 0} where
     values-alter-nothing o l l' c c' h k =
         let xs = paired o (w .points) (tracks w l') in
         let v : Lent P → ℕ → ℤ = λ m i. getD (m .values) i (pos 0) in
-        rw (h .starts, h .ends, h .counts, h .long, room-alike c c' k) (settle-alike (judge w TwoWay l') (length xs) (paired-room w c') c c' (lay-paired w (v l) xs c) (lay-paired w (v l') xs c') k (lay-alike (v l) (v l') xs c c' k))
+        rw (h .starts, h .ends, h .counts, h .long, room-alike c c' k) (settle-alike (judge w TwoWay l') (length xs) (room c') c c' (lay w (v l) 0 xs c) (lay w (v l') 0 xs c') k (lay-alike (v l) (v l') xs c c' k))

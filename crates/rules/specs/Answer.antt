@@ -1,10 +1,10 @@
 -- What comes back: a code and a number; the refusals in their order; columns. Assumes nothing.
-use Prim.Native.Nat.{ℕ}
+use Prim.Native.Nat.{ℕ, _+_, min}
 use mathlib.Core.Bool.{Bool, true, false, cond, not, _&&_}
 use mathlib.Core.Option.{Option, none, some}
 use mathlib.Core.List.{List, [], _∷_, _++_, map}
 use lib.Dec.{ltb, leb, eqb}
-use lib.ListN.{length, drop}
+use lib.ListN.{length, take, drop}
 use Rattle.rules.specs.Piece.{Piece}
 use Rattle.rules.specs.Lists.{Width, Lent, total, tracks}
 use Rattle.rules.specs.declared.Answer.{Answer}
@@ -66,17 +66,13 @@ judge-lists (l ∷ ls) = or-else (judge-list none l) (judge-lists ls)
 abbrev pub two-way : Kind → Bool
 two-way Listing = false
 two-way TwoWay = true
-two-way (Join c) = false
+two-way (Join known) = false
 two-way Selection = false
-
--- there are combiners 1 to 5
-abbrev pub known : ℕ → Bool
-known c = ltb 0 c && ltb c 6
 
 abbrev pub unknown-combiner : Kind → Bool
 unknown-combiner Listing = false
 unknown-combiner TwoWay = false
-unknown-combiner (Join c) = not (known c)
+unknown-combiner (Join known) = not known
 unknown-combiner Selection = false
 
 module _ {P : Type 0} where
@@ -107,6 +103,16 @@ abbrev pub settle : {C : Type 0} → Judgement → ℕ → ℕ → C → C → O
 settle (Refused a) needed room before after = record { answer = a; columns = before }
 settle Sound needed room before after = cond (leb needed room) (record { answer = Done needed; columns = after }) (record { answer = NoRoom needed; columns = before })
 
--- a column with what f takes of each piece at its front; later places keep their contents
+-- the room is the length of the shortest column
+abbrev pub least : List ℕ → ℕ
+least [] = 0
+least (n ∷ []) = n
+least (n ∷ m ∷ ms) = min n (least (m ∷ ms))
+
+-- a column with what f takes of each piece, laid from place n on; the other places keep their contents
+abbrev pub laid : {A R : Type 0} → ℕ → (R → A) → List R → List A → List A
+laid n f xs l = take n l ++ (map f xs ++ drop (n + length xs) l)
+
+-- at the front of the column
 abbrev pub front : {A R : Type 0} → (R → A) → List R → List A → List A
-front f xs l = map f xs ++ drop (length xs) l
+front f xs l = laid 0 f xs l

@@ -7,9 +7,9 @@ pub mod Answer
 pub mod Said
 pub mod Sweep
 pub mod TwoWay
-pub mod ManyWay
-pub mod Selections
+pub mod Merged
+pub mod Paired
+pub mod Listed
 pub mod Outcomes
 pub mod Refusals
 pub mod Proving
-pub mod Sheet

@@ -5,6 +5,8 @@ use mathlib.Core.List.{List, [], _∷_}
 use lib.Dec.{ltb}
 use lib.IntN.{ℤ, pos, negsuc}
 use lib.ListN.{getD}
+use denote.Ref.{RefT}
+use denote.Triple.Both.{Both}
 use Rattle.rules.specs.Piece.{Piece, Range}
 
 -- A kind of point: how many there are, the key of a point, which is its distance from the least, and the point with a key.
@@ -34,8 +36,19 @@ pub record Lent (P : Type 0) : Type 0 where
   pub values : List ℤ
   pub counts : List ℕ
 
-abbrev pub lent : {P : Type 0} → List P → List P → List ℤ → List ℕ → Lent P
-lent s e v n = record { starts = s; ends = e; values = v; counts = n }
+-- a column as a precondition sees it, and as a promise does, which can ask what it is at entry and at exit
+abbrev pub Column : Type 0 → Type 0
+Column A = RefT (List A)
+
+abbrev pub Columns : Type 0 → Type 0
+Columns A = Both (Column A) (Column A)
+
+-- what is lent to be read, in a precondition and in a promise
+abbrev pub lent : {P : Type 0} → Column P → Column P → Column ℤ → Column ℕ → Lent P
+lent s e v n = record { starts = s .now; ends = e .now; values = v .now; counts = n .now }
+
+abbrev pub given : {P : Type 0} → Columns P → Columns P → Columns ℤ → Columns ℕ → Lent P
+given s e v n = lent (s .entry) (e .entry) (v .entry) (n .entry)
 
 -- the range at place i starts at s i, ends at e i and has the value v i
 module _ {A : Type 0} (s e : ℕ → ℕ) (v : ℕ → A) where

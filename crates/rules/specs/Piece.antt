@@ -2,7 +2,7 @@
 use Prim.Native.Nat.{ℕ, _+_, _≤_}
 use mathlib.Core.Path.{_≡_}
 use mathlib.Core.Logic.{_≢_}
-use mathlib.Core.Bool.{Bool, cond, _&&_}
+use mathlib.Core.Bool.{Bool, true, false, cond, _&&_}
 use mathlib.Core.Option.{Option, none, some}
 use mathlib.Core.List.{List, [], _∷_, map}
 use lib.IntN.{ℤ}
@@ -30,6 +30,17 @@ module _ {A : Type 0} where
   -- what each of some lists has at p, in list order
   abbrev pub column : List (List (Piece A)) → ℕ → List (Option A)
   column ls p = map (λ l. at l p) ls
+
+  -- whether a list has something there
+  abbrev pub there : Option A → Bool
+  there none = false
+  there (some v) = true
+
+  -- the values of the lists present, in list order
+  abbrev pub present : List (Option A) → List A
+  present [] = []
+  present (none ∷ os) = present os
+  present (some v ∷ os) = v ∷ present os
 
   -- the pieces ascend, none empty, among the points from c up to but not n
   abbrev pub Within : ℕ → ℕ → List (Piece A) → Type 0

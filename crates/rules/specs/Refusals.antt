@@ -6,7 +6,8 @@ use mathlib.Core.Bool.{Bool, true, false, cond}
 use mathlib.Core.List.{List, [], _∷_}
 use lib.Dec.{ltb}
 use lib.ListN.{length}
-use Rattle.rules.specs.Lists.{Width, Lent, keys, total}
+use Rattle.rules.specs.Piece.{AllWellFormed}
+use Rattle.rules.specs.Lists.{Width, Lent, keys, total, tracks}
 use Rattle.rules.specs.Answer.{two-way, unknown-combiner}
 use Rattle.rules.specs.declared.Answer.{Answer}
 use Rattle.rules.specs.declared.Answer.the-variants.{Done, TooManyLists, NotTwoLists, TooManyRanges, ColumnsDiffer, Backward, Overlap, UnknownCombiner, NoRoom}
@@ -34,6 +35,15 @@ pub record Agree {P : Type 0} (l : Lent P) : Type 0 where
   pub ends-long : length (l .ends) ≡ length (l .starts)
   pub values-long : length (l .values) ≡ length (l .starts)
   pub adds-up : total (l .counts) ≡ length (l .starts)
+
+-- what the form checker passes: lists within the limits of an operation, in columns of one length, and well formed whatever their values
+pub record Formed {P : Type 0} (w : Width P) (k : Kind) (l : Lent P) : Type 0 where
+  pub lists-few : length (l .counts) ≤ 16
+  pub two : two-way k ≡ true → length (l .counts) ≡ 2
+  pub agree : Agree l
+  pub ranges-few : length (l .starts) ≤ 2048
+  pub known-combiner : unknown-combiner k ≡ false
+  pub formed : AllWellFormed (w .points) (tracks w l)
 
 module _ {P : Type 0} (w : Width P) (l : Lent P) where
   -- a start beyond its end; a start not beyond the end before it in its list

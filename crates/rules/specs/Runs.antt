@@ -6,16 +6,16 @@ use mathlib.Core.List.{List, [], _∷_}
 use lib.Dec.{ltb, eqb}
 use Rattle.rules.specs.Piece.{Piece, column}
 
--- k in its place in an ascending list, once
-abbrev pub insert : ℕ → List ℕ → List ℕ
-insert k [] = k ∷ []
-insert k (c ∷ cs) = let rest = insert k cs in cond (ltb k c) (k ∷ c ∷ cs) (cond (eqb k c) (c ∷ cs) (c ∷ rest))
+-- a cut in its place among ascending ones, once
+abbrev pub enter : ℕ → List ℕ → List ℕ
+enter k [] = k ∷ []
+enter k (c ∷ cs) = let rest = enter k cs in cond (ltb k c) (k ∷ c ∷ cs) (cond (eqb k c) (c ∷ cs) (c ∷ rest))
 
 module _ {A : Type 0} where
   -- the points at which a list may change, put into cs: each start, and the point after each end
   abbrev pub edges : List (Piece A) → List ℕ → List ℕ
   edges [] cs = cs
-  edges (x ∷ xs) cs = insert (x .start) (insert (x .end + 1) (edges xs cs))
+  edges (x ∷ xs) cs = enter (x .start) (enter (x .end + 1) (edges xs cs))
 
   unfoldable pub cuts : List (List (Piece A)) → List ℕ
   cuts [] = []
@@ -24,7 +24,7 @@ module _ {A : Type 0} where
   -- the cuts of the lists, and the two ends of a line of n points
   unfoldable pub line : ℕ → List (List (Piece A)) → List ℕ
   unfolding cuts
-  line n ls = insert 0 (insert n (cuts ls))
+  line n ls = enter 0 (enter n (cuts ls))
 
 module _ {B : Type 0} (same : B → B → Bool) where
   -- x and y touch and have one value

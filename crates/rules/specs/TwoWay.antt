@@ -5,28 +5,21 @@ use mathlib.Core.Option.{Option, none, some}
 use mathlib.Core.List.{List, [], _∷_, _++_}
 use lib.Dec.{eqb, leb}
 use lib.IntN.{ℤ, pos}
-use Rattle.rules.specs.Piece.{Piece}
+use Rattle.rules.specs.Piece.{Piece, there}
 use Rattle.rules.specs.Same.{eqOption, eqPair}
 use Rattle.rules.specs.Runs.{runs}
-
--- inner keeps what both cover, left what the left covers, full what either covers
-pub data Pairing : Type 0 where
-  inner : Pairing
-  left : Pairing
-  full : Pairing
+use Rattle.rules.specs.declared.Pairing.{Pairing}
+use Rattle.rules.specs.declared.Pairing.the-variants.{Inner, Left, Full}
 
 -- the places of the ranges that cover, left and right
 abbrev pub Match : Type 0
 Match = Option ℕ × Option ℕ
 
-abbrev pub there : {A : Type 0} → Option A → Bool
-there none = false
-there (some a) = true
-
+-- inner keeps what both cover, left what the left covers, full what either covers
 abbrev pub keeps : Pairing → Match → Bool
-keeps inner m = there (m .0) && there (m .1)
-keeps left m = there (m .0)
-keeps full m = there (m .0) || there (m .1)
+keeps Inner m = there (m .0) && there (m .1)
+keeps Left m = there (m .0)
+keeps Full m = there (m .0) || there (m .1)
 
 abbrev pub pair-rule : Pairing → List (Option ℕ) → Option Match
 pair-rule o [] = none

@@ -1,3 +1,5 @@
+// What a call of the library answers, the refusals among them, and what tells one kind of call from another.
+
 ghost use Prim.Native.Nat.{min};
 ghost use mathlib.Core.Path.{_≡_};
 ghost use Rattle.rules.specs.Answer.{code-of, number-of};
@@ -33,9 +35,16 @@ pub enum Judgement {
 pub enum Kind {
     Listing,
     TwoWay,
-    // By the number of its combiner.
-    Join(u8),
+    // Whether its combiner is known.
+    Join(bool),
     Selection,
+}
+
+// Which runs of two lists a two-way join keeps: those that both cover, that the left covers, or that either does.
+pub enum Pairing {
+    Inner,
+    Left,
+    Full,
 }
 
 pub fn code(a: Answer) -> u8

@@ -4,11 +4,17 @@ use mathlib.Core.Option.{Option, none, some}
 use mathlib.Core.List.{List, [], _∷_, _++_, map}
 use lib.IntN.{ℤ, pos, negsuc}
 use lib.ListN.{length, replicate}
 use Rattle.rules.specs.Lists.{Width, Lent, seats, instants}
 use Rattle.rules.specs.Answer.{Outcome}
-use Rattle.rules.specs.TwoWay.{Pairing}
-use Rattle.rules.specs.Outcomes.{Operation, inner, full, union, symmetric-difference, Merged, Paired, merging, pairing}
+use Rattle.rules.specs.Merged.{Merged}
+use Rattle.rules.specs.Paired.{Paired}
+use Rattle.rules.specs.Outcomes.{pairing}
 use Rattle.rules.specs.declared.Answer.the-variants.{Done}
+use Rattle.rules.specs.declared.Pairing.{Pairing}
+use Rattle.rules.specs.declared.Pairing.the-variants.{Inner, Left, Full}
+use Rattle.many_way_rules.specs.Operations.{inner, full, union, symmetric-difference}
+use Rattle.many_way_rules.specs.Outcomes.{merging}
+use Rattle.many_way_rules.specs.declared.Operation.{Operation}
 
 -- [start..end:value]
 pub record Typed (P A : Type 0) : Type 0 where
@@ -80,10 +86,10 @@ module _ {P : Type 0} (w : Width P) where
 
     abbrev pub rows : List (Row P)
     rows =
-        pair-row Pairing.inner one-in-two (typed 3 4 (some (pos 100), some (pos 7)) ∷ typed 5 6 (some (pos 100), some (pos 7)) ∷ [])
+        pair-row Inner one-in-two (typed 3 4 (some (pos 100), some (pos 7)) ∷ typed 5 6 (some (pos 100), some (pos 7)) ∷ [])
         ∷ merge-row (inner 1) one-in-two (typed 3 6 (pos 107) ∷ [])
-        ∷ pair-row Pairing.left one-in-two (typed 1 2 (some (pos 100), none) ∷ typed 3 4 (some (pos 100), some (pos 7)) ∷ typed 5 6 (some (pos 100), some (pos 7)) ∷ typed 7 10 (some (pos 100), none) ∷ [])
-        ∷ pair-row Pairing.full shared-end (typed 1 4 (some (pos 100), none) ∷ typed 5 5 (some (pos 100), some (pos 20)) ∷ typed 6 9 (none, some (pos 20)) ∷ [])
+        ∷ pair-row Left one-in-two (typed 1 2 (some (pos 100), none) ∷ typed 3 4 (some (pos 100), some (pos 7)) ∷ typed 5 6 (some (pos 100), some (pos 7)) ∷ typed 7 10 (some (pos 100), none) ∷ [])
+        ∷ pair-row Full shared-end (typed 1 4 (some (pos 100), none) ∷ typed 5 5 (some (pos 100), some (pos 20)) ∷ typed 6 9 (none, some (pos 20)) ∷ [])
         ∷ merge-row union shared-end (typed 1 4 (pos 100) ∷ typed 5 9 (pos 20) ∷ [])
         ∷ merge-row symmetric-difference shared-end (typed 1 4 (pos 100) ∷ typed 6 9 (pos 20) ∷ [])
         ∷ merge-row (inner 1) ((typed 1 5 (pos 10) ∷ typed 6 9 (pos 11) ∷ []) ∷ (typed 1 9 (pos 1) ∷ []) ∷ []) (typed 1 5 (pos 11) ∷ typed 6 9 (pos 12) ∷ [])

@@ -4,12 +4,13 @@ use mathlib.Core.Path.{_≡_, sym, _∙_, ap}
 use mathlib.Core.Logic.{_⊎_, inl, inr, _↔_}
 use mathlib.Core.List.{List, [], _∷_, _++_}
 use native.Mathlib.Omega.{arith}
 use Rattle.rules.specs.Piece.{Piece, Range, at, column, Within, Differ, AllWellFormed}
 use Rattle.rules.specs.Same.{eqℤ}
-use Rattle.rules.specs.Outcomes.{Operation, rule-of, merged}
+use Rattle.many_way_rules.specs.Operations.{rule-of, merged}
+use Rattle.many_way_rules.specs.declared.Operation.{Operation}
 use Rattle.rules.proofs.At.{at-in, at-before, at-after, at-tail, le-or-lt}
 use Rattle.rules.proofs.Runs.{runs-below, runs-only, runs-same}
 use Rattle.rules.proofs.Same.{decides-ℤ}
 
 -- over a line of n points
 pub record Right (n : ℕ) (o : Operation) (ls : List (List Range)) (xs : List Range) : Type 0 where

@@ -4,9 +4,10 @@ use mathlib.Core.Logic.{⊎-elim}
 use mathlib.Core.List.{List, [], _∷_, map, List·Memᴰ, List·Memᴰ·cases-cons, List·Memᴰ·not-nil, head-eq-of-cons-eq, tail-eq-of-cons-eq}
 use Prim.Native.Nat.{ℕ}
 use lib.IntN.{ℤ}
 use Rattle.rules.specs.Lists.{key64, point64}
-use Rattle.rules.specs.Outcomes.{merging, pairing}
-use Rattle.rules.specs.Sheet.{Row, Result, seat-rows, instant-rows}
+use Rattle.rules.specs.Outcomes.{pairing}
+use Rattle.many_way_rules.specs.Outcomes.{merging}
+use Rattle.many_way_rules.specs.Sheet.{Row, Result, seat-rows, instant-rows}
 
 abbrev pub Computed : {P : Type 0} → List (Row P) → Type 0
 Computed {P} rows = _≡_ {A = List (Result P)} (map (λ r. r .got) rows) (map (λ r. r .want) rows)

@@ -1,0 +1,4 @@
+-- The laws of many-way joins and selections: Combiners, Selections, Condition3, Room, Outcomes, Sheet.
+pub mod Condition3
+pub mod Room
+pub mod Sheet

@@ -1,0 +1,4 @@
+-- What the contracts say of places, of figures over the lists present, and of stretches.
+pub mod Slots
+pub mod Tally
+pub mod Stretch
