@@ -1,3 +1,3 @@
 -- Laws of the combiners. Assumes nothing.
-mod Kept
 mod Laws
+pub mod Tallies

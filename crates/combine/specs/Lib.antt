@@ -1,2 +1,2 @@
--- What the contract of a combiner says. Assumes nothing.
-pub mod Column
+-- What the contracts of the combiners say. Assumes nothing.
+pub mod Figures

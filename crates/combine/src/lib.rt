@@ -1,11 +1,15 @@
+// The numbered combiners over the values of the lists present.
+
+use rules::MAX_LISTS;
+use rules::shorter;
 ghost use mathlib.Core.Path.{_≡_};
 ghost use Prim.Native.Nat.{_≤_, min};
-ghost use lib.IntN.{ℤ, pos};
-ghost use lib.ListN.{length};
+ghost use lib.IntN.{ℤ};
 ghost use mathlib.Core.Bool.{cond};
 ghost use mathlib.Core.List.{List, [], _∷_};
-ghost use Rattle.rules.specs.ManyWay as rules;
-ghost use Rattle.combine.specs.Column.{held, answer};
+ghost use Rattle.many_way_rules.specs.Combiners as rules;
+ghost use Rattle.slots.specs.Slots.{slots-before, slots-with, values-of};
+ghost use Rattle.combine.specs.Figures.{answer, Summed, Numbered};
 
 // A combiner's answer over the values present.
 pub enum Combined {
@@ -14,46 +18,39 @@ pub enum Combined {
     Unknown,
 }
 
-// The combiner with a number, over the values present in the places of the lists.
-pub fn combine(combiner: u8, values: &[i32; 16], present: &[bool; 16], lists: usize) -> Combined
-    ensures { λ r. ⌜ answer r ≡ rules.combine combiner (held (now (values .entry)) (now (present .entry)) 0 (min lists 16)) ⌝ }
+// The combiner with a number, over the values present in the places of the lists: there are sixteen.
+pub fn combine(combiner: u8, lists: usize, current: &[i32; 16], present: &[bool; 16]) -> Combined
+    ensures { λ r. ⌜ answer r ≡ rules.combine combiner (values-of (min lists 16) (slots-before current present)) ⌝ }
 {
-    let places = places_of(lists);
+    let places = shorter(lists, MAX_LISTS);
     match combiner {
-        1 => Combined::Value(sum(values, present, places)),
-        2 => Combined::Value(largest(values, present, places)),
-        3 => Combined::Value(smallest(values, present, places)),
-        4 => Combined::Value(count(present, places)),
-        5 => Combined::Value(mean(values, present, places)),
+        1 => Combined::Value(sum(places, current, present)),
+        2 => Combined::Value(largest(places, current, present)),
+        3 => Combined::Value(smallest(places, current, present)),
+        4 => Combined::Value(count(places, present)),
+        5 => Combined::Value(mean(places, current, present)),
         _ => Combined::Unknown,
     }
 }
 
-// The places that hold the lists: there are sixteen.
-fn places_of(lists: usize) -> usize
-    ensures { λ r. ⌜ r ≡ min lists 16 ⌝ }
-{
-    if lists < 16 { lists } else { 16 }
-}
-
-fn sum(values: &[i32; 16], present: &[bool; 16], places: usize) -> i64
+fn sum(places: usize, current: &[i32; 16], present: &[bool; 16]) -> i64
     requires { ⌜ places ≤ 16 ⌝ }
-    ensures { λ r. ⌜ r ≡ rules.sum (held (now (values .entry)) (now (present .entry)) 0 places) ⌝ }
+    ensures { λ r. ⌜ Summed places (slots-before current present) r ⌝ }
 {
     let mut total: i64 = 0;
     let mut i = places;
     while 0 < i {
         i -= 1;
         if present[i] {
-            total += values[i] as i64;
+            total += current[i] as i64;
         }
     }
     total
 }
 
-fn largest(values: &[i32; 16], present: &[bool; 16], places: usize) -> i64
+fn largest(places: usize, current: &[i32; 16], present: &[bool; 16]) -> i64
     requires { ⌜ places ≤ 16 ⌝ }
-    ensures { λ r. ⌜ r ≡ rules.largest (held (now (values .entry)) (now (present .entry)) 0 places) ⌝ }
+    ensures { λ r. ⌜ r ≡ rules.largest (values-of places (slots-before current present)) ⌝ }
 {
     let mut best: i64 = 0;
     let mut found = false;
@@ -61,7 +58,7 @@ fn largest(values: &[i32; 16], present: &[bool; 16], places: usize) -> i64
     while 0 < i {
         i -= 1;
         if present[i] {
-            best = larger(found, values[i] as i64, best);
+            best = larger(found, current[i] as i64, best);
             found = true;
         }
     }
@@ -79,9 +76,9 @@ fn larger(found: bool, v: i64, best: i64) -> i64
     }
 }
 
-fn smallest(values: &[i32; 16], present: &[bool; 16], places: usize) -> i64
+fn smallest(places: usize, current: &[i32; 16], present: &[bool; 16]) -> i64
     requires { ⌜ places ≤ 16 ⌝ }
-    ensures { λ r. ⌜ r ≡ rules.smallest (held (now (values .entry)) (now (present .entry)) 0 places) ⌝ }
+    ensures { λ r. ⌜ r ≡ rules.smallest (values-of places (slots-before current present)) ⌝ }
 {
     let mut best: i64 = 0;
     let mut found = false;
@@ -89,7 +86,7 @@ fn smallest(values: &[i32; 16], present: &[bool; 16], places: usize) -> i64
     while 0 < i {
         i -= 1;
         if present[i] {
-            best = smaller(found, values[i] as i64, best);
+            best = smaller(found, current[i] as i64, best);
             found = true;
         }
     }
@@ -108,9 +105,9 @@ fn smaller(found: bool, v: i64, best: i64) -> i64
 }
 
 // How many values are present, whatever they are.
-fn count(present: &[bool; 16], places: usize) -> i64
+fn count(places: usize, present: &[bool; 16]) -> i64
     requires { ⌜ places ≤ 16 ⌝ }
-    ensures { λ r. ⌜ ((values : List ℤ) → r ≡ pos (length (held values (now (present .entry)) 0 places))) ⌝ }
+    ensures { λ r. ⌜ ((current : List ℤ) → Numbered places (slots-with current present) r) ⌝ }
 {
     let mut n: usize = 0;
     let mut left = places;
@@ -124,14 +121,14 @@ fn count(present: &[bool; 16], places: usize) -> i64
 }
 
 // Cut toward zero; 0 where no value is present.
-fn mean(values: &[i32; 16], present: &[bool; 16], places: usize) -> i64
+fn mean(places: usize, current: &[i32; 16], present: &[bool; 16]) -> i64
     requires { ⌜ places ≤ 16 ⌝ }
-    ensures { λ r. ⌜ r ≡ rules.mean (held (now (values .entry)) (now (present .entry)) 0 places) ⌝ }
+    ensures { λ r. ⌜ r ≡ rules.mean (values-of places (slots-before current present)) ⌝ }
 {
-    let n = count(present, places);
+    let n = count(places, present);
     if n == 0 {
         0
     } else {
-        sum(values, present, places) / n
+        sum(places, current, present) / n
     }
 }

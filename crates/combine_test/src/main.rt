@@ -26,14 +26,14 @@ fn no_values() {
         count: 0,
         mean: 0,
     };
-    tell(b"no lists", &[7; 16], &[true; 16], 0, nothing);
-    tell(b"no list present", &[7; 16], &[false; 16], 16, nothing);
+    tell(b"no lists", 0, &[7; 16], &[true; 16], nothing);
+    tell(b"no list present", 16, &[7; 16], &[false; 16], nothing);
 }
 
 fn few_values() {
-    let mut values = [9; 16];
+    let mut current = [9; 16];
     let mut present = [false; 16];
-    values[3] = -3;
+    current[3] = -3;
     present[3] = true;
     let one = Want {
         sum: -3,
@@ -42,8 +42,8 @@ fn few_values() {
         count: 1,
         mean: -3,
     };
-    tell(b"one value among leftovers", &values, &present, 16, one);
-    values[5] = 0;
+    tell(b"one value among leftovers", 16, &current, &present, one);
+    current[5] = 0;
     present[5] = true;
     let two = Want {
         sum: -3,
@@ -52,9 +52,9 @@ fn few_values() {
         count: 2,
         mean: -1,
     };
-    tell(b"-3 and 0", &values, &present, 6, two);
-    tell(b"-3 without the list of 0", &values, &present, 5, one);
-    values[3] = 3;
+    tell(b"-3 and 0", 6, &current, &present, two);
+    tell(b"-3 without the list of 0", 5, &current, &present, one);
+    current[3] = 3;
     let up = Want {
         sum: 3,
         largest: 3,
@@ -62,7 +62,7 @@ fn few_values() {
         count: 2,
         mean: 1,
     };
-    tell(b"3 and 0", &values, &present, 6, up);
+    tell(b"3 and 0", 6, &current, &present, up);
 }
 
 fn sixteen_values() {
@@ -75,16 +75,16 @@ fn sixteen_values() {
     };
     tell(
         b"sixteen of the least",
+        16,
         &[i32::MIN; 16],
         &[true; 16],
-        16,
         least,
     );
     tell(
         b"seventeen lists are sixteen",
+        17,
         &[i32::MIN; 16],
         &[true; 16],
-        17,
         least,
     );
     let greatest = Want {
@@ -96,14 +96,14 @@ fn sixteen_values() {
     };
     tell(
         b"sixteen of the greatest",
+        16,
         &[i32::MAX; 16],
         &[true; 16],
-        16,
         greatest,
     );
-    let mut values = [1; 16];
-    values[0] = i32::MIN;
-    values[15] = i32::MAX;
+    let mut current = [1; 16];
+    current[0] = i32::MIN;
+    current[15] = i32::MAX;
     let ends = Want {
         sum: 13,
         largest: 2147483647,
@@ -113,9 +113,9 @@ fn sixteen_values() {
     };
     tell(
         b"the first and the last of sixteen",
-        &values,
-        &[true; 16],
         16,
+        &current,
+        &[true; 16],
         ends,
     );
 }
@@ -128,17 +128,17 @@ fn unknown_numbers() {
     io::write_all(1, b"\n");
 }
 
-fn tell(what: &[u8], values: &[i32; 16], present: &[bool; 16], lists: usize, want: Want) {
+fn tell(what: &[u8], lists: usize, current: &[i32; 16], present: &[bool; 16], want: Want) {
     io::write_all(1, what);
     io::write_all(1, b":");
-    name(b" sum", gives(1, values, present, lists, want.sum));
-    name(b" largest", gives(2, values, present, lists, want.largest));
+    name(b" sum", gives(1, lists, current, present, want.sum));
+    name(b" largest", gives(2, lists, current, present, want.largest));
     name(
         b" smallest",
-        gives(3, values, present, lists, want.smallest),
+        gives(3, lists, current, present, want.smallest),
     );
-    name(b" count", gives(4, values, present, lists, want.count));
-    name(b" mean", gives(5, values, present, lists, want.mean));
+    name(b" count", gives(4, lists, current, present, want.count));
+    name(b" mean", gives(5, lists, current, present, want.mean));
     io::write_all(1, b"\n");
 }
 
@@ -148,15 +148,15 @@ fn name(what: &[u8], right: bool) {
     }
 }
 
-fn gives(combiner: u8, values: &[i32; 16], present: &[bool; 16], lists: usize, want: i64) -> bool {
-    match combine(combiner, values, present, lists) {
+fn gives(combiner: u8, lists: usize, current: &[i32; 16], present: &[bool; 16], want: i64) -> bool {
+    match combine(combiner, lists, current, present) {
         Combined::Value(v) => v == want,
         Combined::Unknown => false,
     }
 }
 
 fn is_unknown(combiner: u8) -> bool {
-    match combine(combiner, &[7; 16], &[true; 16], 16) {
+    match combine(combiner, 16, &[7; 16], &[true; 16]) {
         Combined::Value(_) => false,
         Combined::Unknown => true,
     }

@@ -5,6 +5,7 @@ use mathlib.Core.Option.{Option, none, some}
 use mathlib.Core.List.{List, [], _∷_}
 use lib.IntN.{ℤ, pos}
 use lib.ListN.{getD}
+use Rattle.rules.specs.Piece as pieces
 use Rattle.rules.specs.Lists.{Column, Columns}
 
 pub record Slots : Type 0 where
@@ -21,6 +22,10 @@ slots-before current present = slots (current .entry) (present .entry)
 abbrev pub slots-after : Columns ℤ → Columns Bool → Slots
 slots-after current present = slots (current .exit) (present .exit)
 
+-- the places at entry with other values, for what goes by presence alone
+abbrev pub slots-with : List ℤ → Columns Bool → Slots
+slots-with current present = record { current = current; present = present .entry .now }
+
 -- what a place holds: its value, where it is present
 abbrev pub slot : Slots → ℕ → Option ℤ
 slot s i = cond (getD (s .present) i false) (some (getD (s .current) i (pos 0))) none
@@ -33,3 +38,7 @@ slots-from s i (suc n) = slot s i ∷ slots-from s (suc i) n
 -- what so many lists have
 abbrev pub active : ℕ → Slots → List (Option ℤ)
 active lists s = slots-from s 0 lists
+
+-- the values of so many lists, where they are present
+abbrev pub values-of : ℕ → Slots → List ℤ
+values-of lists s = pieces.present (active lists s)

@@ -1,19 +1,18 @@
 -- `combine::combine` meets its contract. Assumes nothing.
-use Prim.Native.Nat.{ℕ, min}
+use Prim.Native.Nat.{min}
 use mathlib.Core.Path.{refl}
-use mathlib.Core.List.{List}
 use native.Mathlib.Omega.{arith}
 use borrow.Author.Needs.{needs}
-use lib.IntN.{ℤ, pos}
+use lib.IntN.{pos}
 use lib.ListN.{length}
-use Rattle.rules.specs.ManyWay as rules
-use Rattle.combine.specs.Column.{held}
+use Rattle.many_way_rules.specs.Combiners as rules
+use Rattle.slots.specs.Slots.{Slots, values-of}
 use Rattle.combine.proofs.Laws.{known, unknown}
 use Rattle.combine.proofs.combine.Statement.{statement}
 use Rattle.combine.proofs.combine.Tie as tie
 
-abbrev all : tie.Start → ℕ → List ℤ
-all s n = held (s .args .values .now) (s .args .present .now) 0 n
+abbrev places : tie.Start → Slots
+places a = record { current = a .args .current .now; present = a .args .present .now }
 
 pub combine-spec : {M : Type 1} → statement M
 combine-spec =
@@ -25,9 +24,11 @@ combine-spec =
     (λ c κs. search needs)
     (λ c κs. search needs)
     (λ c κs. search needs)
-    (λ c. known 1 rules.sum (λ l. refl) (all (c .before .before .before)) (c .before .match .keys1) (c .before .before .places-of .ensures) (c .sum .ensures) (c .sum .ok))
-    (λ c. known 2 rules.largest (λ l. refl) (all (c .before .before .before)) (c .before .match .keys2) (c .before .before .places-of .ensures) (c .largest .ensures) (c .largest .ok))
-    (λ c. known 3 rules.smallest (λ l. refl) (all (c .before .before .before)) (c .before .match .keys3) (c .before .before .places-of .ensures) (c .smallest .ensures) (c .smallest .ok))
-    (λ c. known 4 (λ l. pos (length l)) (λ l. refl) (all (c .before .before .before)) (c .before .match .keys4) (c .before .before .places-of .ensures) (c .count .ensures (c .before .before .before .args .values .now)) (c .count .ok))
-    (λ c. known 5 rules.mean (λ l. refl) (all (c .before .before .before)) (c .before .match .keys5) (c .before .before .places-of .ensures) (c .mean .ensures) (c .mean .ok))
-    (λ c. unknown (c .before .before .args .combiner) (all (c .before .before) (min (c .before .before .args .lists) 16)) (λ h. omega arith)))
+    -- each combiner by its number
+    (λ c. let a : tie.Start = search in known 1 rules.sum-of (λ l. refl) (places a) (c .before .match .keys1) (c .before .before .shorter .ensures) (c .sum .ensures .is) (c .sum .ok))
+    (λ c. let a : tie.Start = search in known 2 rules.largest (λ l. refl) (places a) (c .before .match .keys2) (c .before .before .shorter .ensures) (c .largest .ensures) (c .largest .ok))
+    (λ c. let a : tie.Start = search in known 3 rules.smallest (λ l. refl) (places a) (c .before .match .keys3) (c .before .before .shorter .ensures) (c .smallest .ensures) (c .smallest .ok))
+    (λ c. let a : tie.Start = search in known 4 (λ l. pos (length l)) (λ l. refl) (places a) (c .before .match .keys4) (c .before .before .shorter .ensures) (c .count .ensures (a .args .current .now) .is) (c .count .ok))
+    (λ c. let a : tie.Start = search in known 5 rules.mean (λ l. refl) (places a) (c .before .match .keys5) (c .before .before .shorter .ensures) (c .mean .ensures) (c .mean .ok))
+    -- no other has one
+    (λ c. let a : tie.Start = search in unknown (a .args .combiner) (values-of (min (a .args .lists) 16) (places a)) (λ h. omega arith)))

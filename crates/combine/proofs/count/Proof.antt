@@ -7,15 +7,17 @@ use lib.IntN.{ℤ, pos}
 use lib.ListN.{length}
 use mir.Syntax.{w64}
 use mir.ValLaws.{toZ-pos}
-use Rattle.combine.proofs.Kept.{Kept, kept-start, kept-there, kept-missing, kept-end}
+use Rattle.rules.specs.Piece as pieces
+use Rattle.slots.proofs.Kept.{Kept, kept-start, kept-there, kept-missing, kept-end}
+use Rattle.combine.proofs.Laws.{numbered}
 use Rattle.combine.proofs.count.Statement.{statement}
 use Rattle.combine.proofs.count.Tie as tie
 
 abbrev Inv-loop : tie.InvT-loop
-Inv-loop present places n₀ left₀ n left = (n + left ≤ 16) × ((values : List ℤ) → Kept values present places left (λ l. n ≡ length l))
+Inv-loop places present n₀ left₀ n left = (n + left ≤ places) × ((current : List ℤ) → Kept (record { current = current; present = present }) places left (λ os. n ≡ length (pieces.present os)))
 
 abbrev μ-loop : tie.MeasureT-loop
-μ-loop present places n₀ left₀ n left = left
+μ-loop places present n₀ left₀ n left = left
 
 pub count-spec : {M : Type 1} → statement M
 count-spec =
@@ -23,13 +25,17 @@ count-spec =
     (tie.spec
     Inv-loop
     μ-loop
-    (λ c. (omega arith, λ values. kept-start refl))
+    -- before the loop
+    (λ c. (omega arith, λ current. kept-start refl))
     (λ c. omega arith)
     (λ c. omega arith)
     (λ c. omega arith)
+    -- a place that is present
     (λ c. omega arith)
-    (λ c. (omega arith, λ values. kept-there (c .before .before .before .loop .inv .1 values) (omega arith) (c .if1 .taken) (λ _ k. omega arith)))
+    (λ c. (omega arith, λ current. kept-there (c .before .before .before .loop .inv .1 current) (omega arith) (c .if1 .taken) (λ _ k. omega arith)))
+    -- a place that is not
     (λ c. omega arith)
-    (λ c. (omega arith, λ values. kept-missing (c .before .before .before .loop .inv .1 values) (omega arith) (c .if1 .left) (λ _ k. k)))
+    (λ c. (omega arith, λ current. kept-missing (c .before .before .before .loop .inv .1 current) (omega arith) (c .if1 .left) (λ _ k. k)))
+    -- all places are passed
     (λ c. record { sfits = omega arith })
-    (λ c values. toZ-pos w64 (c .before .loop .n) (omega arith) ∙ ap pos (kept-end (c .before .loop .inv .1 values) (c .loop-test .left))))
+    (λ c current. numbered (c .before .loop .n) (omega arith) (omega arith) (kept-end (c .before .loop .inv .1 current) (c .loop-test .left))))
