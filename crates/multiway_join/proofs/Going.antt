@@ -1,44 +1,36 @@
--- What a pass keeps from stretch to stretch: the pieces that are done and the one that is pending say what the rule says up to the last stretch. Assumes nothing.
+-- What a walk over stretches keeps, for any value that can be told from others, any rule, any columns and any first place: the pieces that are done and those that wait say what the rule says up to the last stretch. Assumes nothing.
 use Prim.Native.Nat.{ℕ, zero, suc, pred, _+_, _-_, _≤_, _<_}
-use mathlib.Core.Path.{_≡_, refl, ap, _∙_, subst}
+use mathlib.Core.Path.{_≡_, refl, sym, ap, _∙_, subst}
 use mathlib.Core.Logic.{_⊎_, inl, inr}
-use mathlib.Core.Bool.{Bool, true, false}
+use mathlib.Core.Bool.{Bool, true, false, cond}
 use mathlib.Core.Option.{Option, none, some}
 use mathlib.Core.List.{List, [], _∷_, _++_, append-assoc, append-nil}
 use native.Mathlib.Omega.{arith}
-use lib.IntN.{ℤ}
+use native.Mathlib.Nat.{add-zero}
 use lib.ListN.{length, length-append}
-use Rattle.rules.specs.Piece.{Piece as PieceOf, Range, column, Within, AllWellFormed}
-use Rattle.rules.specs.Lists.{Width}
-use Rattle.rules.specs.Same.{eqℤ, Decides}
-use Rattle.rules.specs.Runs.{attach, touch, push, extend, says}
-use Rattle.rules.specs.Outcomes.{Operation, rule-of, merged, Merged, merged-room}
+use Rattle.rules.specs.Piece.{Piece, Within, AllWellFormed}
+use Rattle.rules.specs.Same.{Decides}
+use Rattle.rules.specs.Runs.{attach, touch, push, extend, says, runs}
+use Rattle.rules.specs.Answer.{least}
 use Rattle.rules.specs.Proving.Below.{nones, Below}
-use Rattle.rules.proofs.At.{le-or-lt, within-le}
+use Rattle.rules.specs.Proving.Long.{Long}
+use Rattle.rules.proofs.At.{le-or-lt, within-le, within-mono}
+use Rattle.rules.proofs.Fronts.{same-room}
 use Rattle.rules.proofs.Push.{push-past, skip-below}
 use Rattle.rules.proofs.Runs.{extend-below, nothing-below, runs-only}
-use Rattle.rules.proofs.Same.{decides-ℤ}
-use Rattle.multiway_sweep.specs.Steps.{Columns, Arrays}
-use Rattle.multiway_sweep.specs.declared.Range.{Range as Span}
-use Rattle.join_sweep.specs.Active.{Slots, active}
-use Rattle.join_sweep.specs.Stretches.{Stretches}
-use Rattle.multiway_join.specs.Pieces.{piece-of, waiting, Apart, PushedOn, Puttable, Put, lay}
-use Rattle.multiway_join.specs.Passes.{Joinable, Passed}
-use Rattle.join_sweep.specs.declared.JoinSweep.{JoinSweep}
-use Rattle.multiway_join.specs.declared.Piece.{Piece}
-use Rattle.multiway_join.specs.declared.Pending.{Pending}
-use Rattle.multiway_join.specs.declared.Pending.the-variants.{Nothing, Held}
-use Rattle.multiway_join.specs.declared.Pushed.{Pushed}
-use Rattle.multiway_join.proofs.Columns.{Long, lay-long, lay-room, lay-put}
+use Rattle.slots.specs.Stretch.{Stretch, NoStretch}
+use Rattle.multiway_join.specs.Pieces.{PushedOn}
+use Rattle.multiway_join.specs.Passes.{Puttable, lay-if, PutPieces}
+use Rattle.multiway_join.proofs.Columns.{Takes, if-nothing, if-append, if-keeps}
 
 module _ {B : Type 0} (same : B → B → Bool) where
   -- the last piece alone takes part in a push
-  push-pending : (xs : List (PieceOf B)) (x y : PieceOf B) → push same (xs ++ (x ∷ [])) y ≡ xs ++ push same (x ∷ []) y
-  push-pending [] x y = refl
-  push-pending (z ∷ []) x y = refl
-  push-pending (z ∷ w ∷ ws) x y = ap (λ l. z ∷ l) (push-pending (w ∷ ws) x y)
+  push-last : (xs : List (Piece B)) (x : Piece B) (zs : List (Piece B)) (y : Piece B) → push same (xs ++ (x ∷ zs)) y ≡ xs ++ push same (x ∷ zs) y
+  push-last [] x zs y = refl
+  push-last (z ∷ []) x zs y = refl
+  push-last (z ∷ w ∷ ws) x zs y = ap (λ l. z ∷ l) (push-last (w ∷ ws) x zs y)
 
-  push-longer : (xs : List (PieceOf B)) (y : PieceOf B) → length xs ≤ length (push same xs y)
+  push-longer : (xs : List (Piece B)) (y : Piece B) → length xs ≤ length (push same xs y)
   push-longer [] y = omega arith
   push-longer (x ∷ []) y = go (touch same x y)
     where
@@ -47,12 +39,12 @@ module _ {B : Type 0} (same : B → B → Bool) where
       go false = omega arith
   push-longer (x ∷ z ∷ zs) y = omega (arith, push-longer (z ∷ zs) y)
 
-  extend-longer : (o : Option B) (c d : ℕ) (xs : List (PieceOf B)) → length xs ≤ length (extend same o c d xs)
+  extend-longer : (o : Option B) (c d : ℕ) (xs : List (Piece B)) → length xs ≤ length (extend same o c d xs)
   extend-longer none c d xs = omega arith
   extend-longer (some v) c d xs = push-longer xs _
 
   -- pieces up to a point grow, one point after the other, to pieces up to a later one
-  grown : Decides same → (f : ℕ → Option B) (m k : ℕ) (xs : List (PieceOf B)) → Below k xs f → (ys : List (PieceOf B)) × Below (k + m) ys f × (length xs ≤ length ys)
+  grown : Decides same → (f : ℕ → Option B) (m k : ℕ) (xs : List (Piece B)) → Below k xs f → (ys : List (Piece B)) × Below (k + m) ys f × (length xs ≤ length ys)
   grown law f zero k xs b = let e : k + 0 ≡ k = omega arith in (xs, rw e b, omega arith)
   grown law f (suc m) k xs b =
       let ys = extend same (f k) k (k + 1) xs in
@@ -60,135 +52,159 @@ module _ {B : Type 0} (same : B → B → Bool) where
       let e : k + 1 + m ≡ k + suc m = omega arith in
       (r .0, rw e at (r .1), omega (arith, r .2, extend-longer (f k) k (k + 1) xs))
 
-within-middle : (b n : ℕ) (xs : List Range) (z : Range) (ys : List Range) → Within b n (xs ++ (z ∷ ys)) → (z .start ≤ z .end) × (z .end < n)
-within-middle b n [] z ys w = (w .1, omega (arith, within-le (z .end + 1) n ys (w .2)))
-within-middle b n (x ∷ xs) z ys w = within-middle (x .end + 1) n xs z ys (w .2)
+-- pieces that stand after others, or before them
+module _ {B : Type 0} where
+  within-last : (b n : ℕ) (xs ys : List (Piece B)) → Within b n (xs ++ ys) → Within 0 n ys
+  within-last b n [] [] w = omega arith
+  within-last b n [] (y ∷ ys) w = (omega arith, w .1, w .2)
+  within-last b n (x ∷ xs) ys w = within-last (x .end + 1) n xs ys (w .2)
 
-module _ {P : Type 0} (w : Width P) (o : Operation) (ls : List (List Range)) where
-  abbrev pub Upto : ℕ → List Range → Type 0
-  Upto k xs = Below k xs (says (rule-of o) ls)
+  within-first : (b n : ℕ) (xs ys : List (Piece B)) → Within b n (xs ++ ys) → Within b n xs
+  within-first b n [] ys w = within-le b n ys w
+  within-first b n (x ∷ xs) ys w = (w .0, w .1, within-first (x .end + 1) n xs ys (w .2))
 
-  -- the points below k are dealt with: the columns before, and now; what is pending; and how many pieces are done
-  pub record Going (write : Bool) (c d : Merged P) (p : Pending) (n k : ℕ) : Type 0 where
-    pub upto : k ≤ w .points
-    pub done : List Range
-    pub counted : n ≡ length done
-    pub laid : d ≡ lay w write done c
-    pub below : Upto k (done ++ waiting p)
-    pub first : p ≡ Nothing → done ≡ []
+-- a walk over the stretches of lists: its rule, and the columns that its pieces are laid into from a place on, where they are written
+pub record Walk (A B C : Type 0) : Type 0 where
+  pub same : B → B → Bool
+  pub rule : List (Option A) → Option B
+  pub points : ℕ
+  pub lists : List (List (Piece A))
+  pub lengths : C → List ℕ
+  pub lay : ℕ → List (Piece B) → C → C
+  pub write : Bool
+  pub from : ℕ
+  pub columns : C
 
-  pub going-first : (write : Bool) (c : Merged P) → Going write c c Nothing 0 0
-  going-first write c = record { upto = omega arith; done = []; counted = refl; laid = go write; below = nothing-below (says (rule-of o) ls); first = λ e. refl }
-    where
-      go : (b : Bool) → c ≡ lay w b [] c
-      go true = refl
-      go false = refl
+module _ {A B C : Type 0} (k : Walk A B C) where
+  abbrev pub pieces : List (Piece B)
+  pieces = runs (k .same) (k .rule) (k .points) (k .lists)
 
-  -- there are no more of them than of all pieces
-  not-more : AllWellFormed (w .points) ls → (k : ℕ) (xs : List Range) → k ≤ w .points → Upto k xs → length xs ≤ length (merged o (w .points) ls)
-  unfolding merged
-  not-more wf k xs h b =
-      let r = grown eqℤ decides-ℤ (says (rule-of o) ls) (w .points - k) k xs b in
-      let e : k + (w .points - k) ≡ w .points = omega arith in
-      omega (arith, r .2, ap length (runs-only eqℤ decides-ℤ (rule-of o) (w .points) ls wf (r .0) (rw e at (r .1))))
+  -- the rule admits no point at which no list has anything, and there is room for all pieces
+  pub record Walkable : Type 0 where
+    pub law : Decides (k .same)
+    pub takes : Takes (k .lengths) (k .lay)
+    pub formed : AllWellFormed (k .points) (k .lists)
+    pub nothing : k .rule (nones (k .lists)) ≡ none
+    pub roomy : k .write ≡ true → k .from + length pieces ≤ least (k .lengths (k .columns))
+    pub few : k .from + length pieces ≤ 4095
 
-  module _ {write : Bool} {c d : Merged P} {p : Pending} {n k : ℕ} (j : Joinable w o ls write c) (g : Going write c d p n k) where
-    -- what is done next, and what there is besides
-    module _ (q : Pending) (rest : List Range) {m : ℕ} (h : m ≤ w .points) (b : Upto m ((g .done ++ waiting q) ++ rest)) where
-      all-few : length (g .done ++ waiting q) ≤ length (merged o (w .points) ls)
-      all-few = omega (arith, length-append (g .done ++ waiting q) rest, not-more (j .formed) m ((g .done ++ waiting q) ++ rest) h b)
+  abbrev Upto : ℕ → List (Piece B) → Type 0
+  Upto p xs = Below p xs (says (k .rule) (k .lists))
 
-      roomy : write ≡ true → length (g .done ++ waiting q) ≤ merged-room w c
-      roomy e = omega (arith, all-few, j .room e)
+  -- the points below p are dealt with: the columns as they are now, the pieces that wait, and the place after those that are done
+  pub record Going (d : C) (waiting : List (Piece B)) (place p : ℕ) : Type 0 where
+    pub upto : p ≤ k .points
+    pub done : List (Piece B)
+    pub counted : place ≡ k .from + length done
+    pub laid : d ≡ lay-if (k .lay) (k .write) (k .from) done (k .columns)
+    pub below : Upto p (done ++ waiting)
+    pub first : waiting ≡ [] → done ≡ []
 
-      pub next-puttable : Puttable w write n q d
-      next-puttable = go q refl
-        where
-          go : (r : Pending) → q ≡ r → Puttable w write n r d
-          go Nothing e = tt
-          go (Held x) e =
-              let u = rw e at b in
-              let v = subst (λ l. Within 0 m l) (append-assoc (g .done) (piece-of x ∷ []) rest) (u .canonical .0) in
-              let s = within-middle 0 m (g .done) (piece-of x) rest v in
-              let l = ap (λ r. length (g .done ++ waiting r)) e ∙ length-append (g .done) (piece-of x ∷ []) in
-              record {
-                room = λ t. let y = ap (merged-room w) (g .laid) ∙ lay-room w c write (g .done) (λ t. omega (arith, length-append (g .done) (waiting q), roomy t)) in rw y (omega (arith, roomy t, g .counted));
-                start = omega arith;
-                end = omega arith;
-                few = omega (arith, g .counted, all-few, j .enough);
-              }
+module _ {A B C : Type 0} {k : Walk A B C} (ok : Walkable k) where
+  pub going-first : Going k (k .columns) [] (k .from) 0
+  going-first = record { upto = omega arith; done = []; counted = sym (add-zero (k .from)); laid = sym (if-nothing (ok .takes) (k .from) (k .write) (k .columns)); below = nothing-below (says (k .rule) (k .lists)); first = λ e. refl }
 
-      module _ {d' : Merged P} {n' : ℕ} (u : Put w write n q d d' n') where
-        next-counted : n' ≡ length (g .done ++ waiting q)
-        next-counted = omega (arith, u .count, g .counted, length-append (g .done) (waiting q))
+  -- pieces up to a point are no more than all pieces
+  not-more : (p : ℕ) (xs : List (Piece B)) → p ≤ k .points → Upto k p xs → length xs ≤ length (pieces k)
+  not-more p xs h b =
+      let r = grown (k .same) (ok .law) (says (k .rule) (k .lists)) (k .points - p) p xs b in
+      let e : p + (k .points - p) ≡ k .points = omega arith in
+      omega (arith, r .2, ap length (runs-only (k .same) (ok .law) (k .rule) (k .points) (k .lists) (ok .formed) (r .0) (rw e at (r .1))))
 
-        next-laid : d' ≡ lay w write (g .done ++ waiting q) c
-        next-laid = u .is ∙ rw (g .laid, g .counted) (lay-put w c write (g .done) q roomy)
+  module _ {d : C} {waiting : List (Piece B)} {place p : ℕ} (g : Going k d waiting place p) where
+    done-roomy : k .write ≡ true → k .from + length (g .done) ≤ least (k .lengths (k .columns))
+    done-roomy t = omega (arith, length-append (g .done) waiting, not-more p (g .done ++ waiting) (g .upto) (g .below), ok .roomy t)
 
     -- every column keeps its length
-    pub going-long : Long c d
-    going-long = rw (g .laid) (lay-long w c write (g .done) (λ t. omega (arith, length-append (g .done) (waiting p), not-more (j .formed) k (g .done ++ waiting p) (g .upto) (g .below), j .room t)))
+    pub going-long : Long (k .lengths d) (k .lengths (k .columns))
+    going-long = rw (g .laid) (if-keeps (ok .takes) (k .from) (k .write) (g .done) (k .columns) done-roomy)
+
+    -- what is put next, and what there is besides
+    module _ (next rest : List (Piece B)) {q : ℕ} (h : q ≤ k .points) (b : Upto k q ((g .done ++ next) ++ rest)) where
+      all-few : length (g .done ++ next) ≤ length (pieces k)
+      all-few = omega (arith, length-append (g .done ++ next) rest, not-more q ((g .done ++ next) ++ rest) h b)
+
+      next-roomy : k .write ≡ true → k .from + length (g .done ++ next) ≤ least (k .lengths (k .columns))
+      next-roomy t = omega (arith, all-few, ok .roomy t)
+
+      next-puttable : Puttable (k .points) (least (k .lengths d)) (k .write) place next
+      next-puttable =
+          let l = length-append (g .done) next in
+          record {
+            within = within-last 0 (k .points) (g .done) next (within-mono 0 q (k .points) (g .done ++ next) (within-first 0 q (g .done ++ next) rest (b .canonical .0)) h);
+            roomy = λ t. omega (arith, next-roomy t, g .counted, same-room (k .lengths d) (k .lengths (k .columns)) going-long);
+            few = omega (arith, g .counted, all-few, ok .few);
+          }
+
+      module _ {d' : C} {place' : ℕ} (u : PutPieces (k .lay) (k .write) place next d d' place') where
+        next-counted : place' ≡ k .from + length (g .done ++ next)
+        next-counted = omega (arith, u .count, g .counted, length-append (g .done) next)
+
+        next-laid : d' ≡ lay-if (k .lay) (k .write) (k .from) (g .done ++ next) (k .columns)
+        next-laid = u .is ∙ rw (g .laid, g .counted) (if-append (ok .takes) (k .from) (k .write) (g .done) next (k .columns) next-roomy)
 
     -- a stretch
-    module _ {l : Columns P} {a : Arrays} {s : Slots} {i : JoinSweep} {x : Span} (t : Stretches w l ls a s i k x) where
-      before : (q : ℕ) → k ≤ q → q < x .start → says (rule-of o) ls q ≡ none
-      before q h m = ap (rule-of o) (t .gap q h m) ∙ j .nothing
+    module _ {act : List (Option A)} {start end : ℕ} (t : Stretch (k .points) (k .lists) p act start end) where
+      pub turn-less : k .points - (end + 1) < k .points - p
+      turn-less = omega (arith, t .later, t .order, t .below)
+
+      before : (q : ℕ) → p ≤ q → q < start → says (k .rule) (k .lists) q ≡ none
+      before q h m = ap (k .rule) (t .gap q h m) ∙ ok .nothing
 
       -- that is not admitted
-      pub going-on : rule-of o (active (length ls) s) ≡ none → Going write c d p n (x .end + 1)
-      going-on e = record { upto = omega (arith, t .below); done = g .done; counted = g .counted; laid = g .laid; below = skip-below k (x .end + 1) (g .done ++ waiting p) (says (rule-of o) ls) (g .below) (omega (arith, t .later, t .order)) (λ q h m. go q h m (le-or-lt (x .start) q)); first = g .first }
+      pub turn-silent : k .rule act ≡ none → Going k d waiting place (end + 1)
+      turn-silent e = record { upto = omega (arith, t .below); done = g .done; counted = g .counted; laid = g .laid; below = skip-below p (end + 1) (g .done ++ waiting) (says (k .rule) (k .lists)) (g .below) (omega (arith, t .later, t .order)) (λ q h m. go q h m (le-or-lt start q)); first = g .first }
         where
-          go : (q : ℕ) → k ≤ q → q < x .end + 1 → (x .start ≤ q) ⊎ (q < x .start) → says (rule-of o) ls q ≡ none
-          go q h m (inl u) = ap (rule-of o) (t .on q u (omega arith)) ∙ e
+          go : (q : ℕ) → p ≤ q → q < end + 1 → (start ≤ q) ⊎ (q < start) → says (k .rule) (k .lists) q ≡ none
+          go q h m (inl u) = ap (k .rule) (t .on q u (omega arith)) ∙ e
           go q h m (inr u) = before q h u
 
-      -- that is admitted with a value
-      module _ {v : ℤ} (e : rule-of o (active (length ls) s) ≡ some v) {y : Piece} (z : y ≡ record { start = x .start; end = x .end; value = v }) where
-        pub next-apart : Apart p y
-        next-apart = go p refl
-          where
-            go : (r : Pending) → p ≡ r → Apart r y
-            go Nothing q = tt
-            go (Held u) q = let b = rw q at (g .below) in omega (arith, within-middle 0 k (g .done) (piece-of u) [] (b .canonical .0) .1, t .later, ap (λ (r : Piece). r .start) z)
+      -- what waits ends before it
+      pub turn-apart : Within 0 start waiting
+      turn-apart = within-last 0 start (g .done) waiting (within-mono 0 p start (g .done ++ waiting) (g .below .canonical .0) (t .later))
 
-        pushed : Upto (x .end + 1) (push eqℤ (g .done ++ waiting p) (piece-of y))
+      -- that is admitted with a value, and is pushed to what waits
+      module _ {y : Piece B} {next : List (Piece B)} {z : Piece B} (u : PushedOn (k .same) waiting y next z) (s : y .start ≡ start) (f : y .end ≡ end) (e : k .rule act ≡ some (y .value)) where
+        pushed : Upto k (end + 1) (push (k .same) (g .done ++ waiting) y)
         pushed =
-            let q : pred (x .end + 1) ≡ x .end = omega arith in
-            rw z (rw q at (push-past eqℤ decides-ℤ k (x .start) (x .end + 1) v (g .done ++ waiting p) (says (rule-of o) ls) (g .below) (t .later) (omega (arith, t .order)) before (λ r h m. ap (rule-of o) (t .on r h (omega arith)) ∙ e)))
+            let q : pred (end + 1) ≡ end = omega arith in
+            let r : record { start = start; end = end; value = y .value } ≡ y = λ i. record { start = sym s i; end = sym f i; value = y .value } in
+            subst (λ x. Upto k (end + 1) (push (k .same) (g .done ++ waiting) x)) r
+            (rw q at (push-past (k .same) (ok .law) p start (end + 1) (y .value) (g .done ++ waiting) (says (k .rule) (k .lists)) (g .below) (t .later) (omega (arith, t .order)) before (λ r h m. ap (k .rule) (t .on r h (omega arith)) ∙ e)))
 
-        push-waiting : (r : Pending) → p ≡ r → push eqℤ (g .done ++ waiting r) (piece-of y) ≡ g .done ++ push eqℤ (waiting r) (piece-of y)
-        push-waiting Nothing q = rw (g .first q)
-        push-waiting (Held u) q = push-pending eqℤ (g .done) (piece-of u) (piece-of y)
+        push-waiting : (xs : List (Piece B)) → waiting ≡ xs → push (k .same) (g .done ++ xs) y ≡ g .done ++ push (k .same) xs y
+        push-waiting [] q = rw (g .first q)
+        push-waiting (x ∷ xs) q = push-last (k .same) (g .done) x xs y
 
-        module _ {r : Pushed} (u : PushedOn p y r) where
-          pub after-push : Upto (x .end + 1) ((g .done ++ waiting (r .done)) ++ (piece-of (r .pending) ∷ []))
-          after-push = rw (append-assoc, u .is, ← push-waiting p refl) pushed
+        after-push : Upto k (end + 1) ((g .done ++ next) ++ (z ∷ []))
+        after-push = rw (append-assoc, u .is, ← push-waiting waiting refl) pushed
 
-          pub going-more : {d' : Merged P} {n' : ℕ} → Put w write n (r .done) d d' n' → Going write c d' (Held (r .pending)) n' (x .end + 1)
-          going-more q =
-              let rest = piece-of (r .pending) ∷ [] in
-              record {
-                upto = omega (arith, t .below);
-                done = g .done ++ waiting (r .done);
-                counted = next-counted (r .done) rest (omega (arith, t .below)) after-push q;
-                laid = next-laid (r .done) rest (omega (arith, t .below)) after-push q;
-                below = after-push;
-                first = λ z. let f : _≡_ {A = ℕ} 0 1 = cc in absurd (omega arith);
-              }
+        pub turn-puttable : Puttable (k .points) (least (k .lengths d)) (k .write) place next
+        turn-puttable = next-puttable next (z ∷ []) (omega (arith, t .below)) after-push
+
+        pub turn-more : {d' : C} {place' : ℕ} → PutPieces (k .lay) (k .write) place next d d' place' → Going k d' (z ∷ []) place' (end + 1)
+        turn-more v =
+            record {
+              upto = omega (arith, t .below);
+              done = g .done ++ next;
+              counted = next-counted next (z ∷ []) (omega (arith, t .below)) after-push v;
+              laid = next-laid next (z ∷ []) (omega (arith, t .below)) after-push v;
+              below = after-push;
+              first = λ q. absurd (omega (arith, ap length q));
+            }
 
     -- no stretch is left
-    module _ (over : (q : ℕ) → k ≤ q → q < w .points → column ls q ≡ nones ls) where
-      whole : Upto (w .points) (g .done ++ waiting p)
-      whole = skip-below k (w .points) (g .done ++ waiting p) (says (rule-of o) ls) (g .below) (g .upto) (λ q h m. ap (rule-of o) (over q h m) ∙ j .nothing)
+    module _ (over : NoStretch (k .points) (k .lists) p) where
+      whole : Upto k (k .points) (g .done ++ waiting)
+      whole = skip-below p (k .points) (g .done ++ waiting) (says (k .rule) (k .lists)) (g .below) (g .upto) (λ q h m. ap (k .rule) (over q h m) ∙ ok .nothing)
 
-      last : Upto (w .points) ((g .done ++ waiting p) ++ [])
+      last : Upto k (k .points) ((g .done ++ waiting) ++ [])
       last = rw append-nil whole
 
-      pub last-puttable : Puttable w write n p d
-      last-puttable = next-puttable p [] (omega arith) last
+      pub last-puttable : Puttable (k .points) (least (k .lengths d)) (k .write) place waiting
+      last-puttable = next-puttable waiting [] (omega arith) last
 
-      pub passed : {d' : Merged P} {n' : ℕ} → Put w write n p d d' n' → Passed w o ls write c d' n'
-      unfolding merged
-      passed u =
-          let e = runs-only eqℤ decides-ℤ (rule-of o) (w .points) ls (j .formed) (g .done ++ waiting p) whole in
-          record { count = next-counted p [] (omega arith) last u ∙ ap length e; laid = next-laid p [] (omega arith) last u ∙ ap (λ xs. lay w write xs c) e }
+      pub walked : {d' : C} {place' : ℕ} → PutPieces (k .lay) (k .write) place waiting d d' place' → PutPieces (k .lay) (k .write) (k .from) (pieces k) (k .columns) d' place'
+      walked u =
+          let e = runs-only (k .same) (ok .law) (k .rule) (k .points) (k .lists) (ok .formed) (g .done ++ waiting) whole in
+          record { count = next-counted waiting [] (omega arith) last u ∙ ap (λ xs. k .from + length xs) e; is = next-laid waiting [] (omega arith) last u ∙ ap (λ xs. lay-if (k .lay) (k .write) (k .from) xs (k .columns)) e }

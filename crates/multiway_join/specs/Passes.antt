@@ -1,44 +1,40 @@
--- What a pass over the stretches promises: how many pieces there are, and that they stand at the front of the columns, where they are written. Assumes nothing.
-use Prim.Native.Nat.{ℕ, _≤_}
+-- What a pass over the stretches promises: that all pieces are laid into the columns from a place on, where they are written, and which place comes after them. Assumes nothing.
+use Prim.Native.Nat.{ℕ, _+_, _≤_, _<_}
 use mathlib.Core.Path.{_≡_}
-use mathlib.Core.Bool.{Bool, true}
-use mathlib.Core.Option.{none}
-use mathlib.Core.List.{List}
+use mathlib.Core.Bool.{Bool, true, cond}
+use mathlib.Core.List.{List, []}
 use lib.ListN.{length}
-use Rattle.rules.specs.Piece.{Range, AllWellFormed}
-use Rattle.rules.specs.Lists.{Width, lists}
-use Rattle.rules.specs.Answer.{settle, leaves}
-use Rattle.rules.specs.Sweep.{events}
-use Rattle.rules.specs.Outcomes.{Operation, rule-of, merged, Merged, merged-room, lay-merged}
-use Rattle.rules.specs.Proving.Below.{nones}
-use Rattle.rules.specs.declared.Answer.{Answer}
+use Rattle.rules.specs.Piece.{Piece, Within}
+use Rattle.rules.specs.Lists.{Width, Lent, lists}
+use Rattle.rules.specs.Answer.{Outcome, settle}
+use Rattle.rules.specs.Refusals.{Formed}
+use Rattle.rules.specs.Merged.{Merged, room, lay}
 use Rattle.rules.specs.declared.Judgement.the-variants.{Sound}
-use Rattle.heap.specs.Heap.{held}
-use Rattle.multiway_sweep.specs.Steps.{Columns, Arrays}
-use Rattle.multiway_sweep.specs.declared.Step.{Step}
-use Rattle.join_sweep.specs.Stretches.{Ready}
-use Rattle.multiway_join.specs.Pieces.{lay}
+use Rattle.many_way_rules.specs.Operations.{kind-of, merged}
+use Rattle.many_way_rules.specs.declared.Operation.{Operation}
 
-module _ {P : Type 0} (w : Width P) (o : Operation) (ls : List (List Range)) where
-  -- lists of which some have to be present at a point, and room for all pieces where they are written
-  pub record Joinable (write : Bool) (c : Merged P) : Type 0 where
-    pub formed : AllWellFormed (w .points) ls
-    pub few : length ls ≤ 16
-    pub nothing : rule-of o (nones ls) ≡ none
-    pub enough : length (merged o (w .points) ls) ≤ 4095
-    pub room : write ≡ true → length (merged o (w .points) ls) ≤ merged-room w c
+-- pieces of any value can be put from place n on: they lie among the points, there is room for them where they are written, and they can be counted
+pub record Puttable {B : Type 0} (points room : ℕ) (write : Bool) (n : ℕ) (xs : List (Piece B)) : Type 0 where
+  pub within : Within 0 points xs
+  pub roomy : write ≡ true → n + length xs ≤ room
+  pub few : n + length xs ≤ 4095
 
-  -- the sweep of the lists begins
-  pub record Begins (l : Columns P) (a : Arrays) (held : Step) (lists : ℕ) (write : Bool) (c : Merged P) : Type 0 where
-    pub lists-are : lists ≡ length ls
-    pub joinable : Joinable write c
-    pub ready : Ready w l a held (events ls)
+-- columns of any kind with pieces from place n on, where they are written
+abbrev pub lay-if : {B C : Type 0} → (ℕ → List (Piece B) → C → C) → Bool → ℕ → List (Piece B) → C → C
+lay-if lay write n xs c = cond write (lay n xs c) c
 
-  -- the columns before, and after
-  pub record Passed (write : Bool) (c d : Merged P) (r : ℕ) : Type 0 where
-    pub count : r ≡ length (merged o (w .points) ls)
-    pub laid : d ≡ lay w write (merged o (w .points) ls) c
+-- pieces are put there: the columns before and after, and the place after them
+pub record PutPieces {B C : Type 0} (lay : ℕ → List (Piece B) → C → C) (write : Bool) (n : ℕ) (xs : List (Piece B)) (c d : C) (r : ℕ) : Type 0 where
+  pub count : r ≡ n + length xs
+  pub is : d ≡ lay-if lay write n xs c
 
-  -- the outcome where nothing is refused before: all pieces, or that there is no room for them
-  pub record Joined (c d : Merged P) (a : Answer) : Type 0 where
-    pub is : leaves a d ≡ settle Sound (length (merged o (w .points) ls)) (merged-room w c) c (lay-merged w (merged o (w .points) ls) c)
+module _ {P : Type 0} (w : Width P) (o : Operation) where
+  -- lists that the form checker passed, at least one, and room for all pieces where they are written
+  pub record Joinable (l : Lent P) (write : Bool) (c : Merged P) : Type 0 where
+    pub formed : Formed w (kind-of o) l
+    pub lists-some : 0 < length (l .counts)
+    pub roomy : write ≡ true → length (merged o (w .points) (lists w l)) ≤ room c
+
+  -- the outcome over zero lists
+  abbrev pub of-none : Merged P → Outcome (Merged P)
+  of-none c = let xs = merged o (w .points) [] in settle Sound (length xs) (room c) c (lay w 0 xs c)

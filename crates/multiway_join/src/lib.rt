@@ -1,23 +1,24 @@
+// What a many-way join does with a stretch, in keys: what it says of it, and a piece that is merged into the one before or is not.
+
 use combine::Combined;
 use combine::combine;
-use multiway_sweep::Range;
+use many_way_rules::Admission;
 use rules::shorter;
+ghost use Prim.Native.Nat.{_*_, _-_, _<_, _≤_, min};
+ghost use mathlib.Core.List.{List};
 ghost use mathlib.Core.Path.{_≡_};
-ghost use Prim.Native.Nat.{_*_, _-_, _<_, _≤_, min, max};
+ghost use lib.IntN.{ℤ};
+ghost use Rattle.rules.specs.Piece.{Within};
 ghost use Rattle.rules.specs.Runs.{touch};
 ghost use Rattle.rules.specs.Same.{eqℤ};
-ghost use Rattle.rules.specs.Outcomes.{rule-of};
-ghost use Rattle.join_sweep.specs.Active.{slots-of, active, Counted};
-ghost use Rattle.multiway_join.specs.Pieces.{needed-of, operation, piece-of, Apart, PushedOn, says-of};
-
-// Which points a join admits: those in every list, or those in at least one.
-pub enum Join {
-    Inner,
-    Full,
-}
+ghost use Rattle.many_way_rules.specs.Selections.{in-every, in-any, in-odd, admitted};
+ghost use Rattle.many_way_rules.specs.Operations.{rule-of};
+ghost use Rattle.many_way_rules.specs.declared.Operation.the-variants.{Join};
+ghost use Rattle.slots.specs.Slots.{active, slots-with, slots-before};
+ghost use Rattle.multiway_join.specs.Pieces.{ruling-of, piece-of, waiting, PushedOn};
 
 // What a join says of a stretch: not admitted, or admitted with a value.
-pub enum Said {
+pub enum Ruling {
     Nothing,
     Value(i64),
 }
@@ -28,10 +29,10 @@ pub struct Piece {
     pub value: i64,
 }
 
-// A piece that may still grow, or none yet.
+// A piece that may still grow, or none.
 pub enum Pending {
     Nothing,
-    Held(Piece),
+    One(Piece),
 }
 
 // The piece that is pending then, and what was pending before, where it is done.
@@ -40,50 +41,83 @@ pub struct Pushed {
     pub done: Pending,
 }
 
-// How many lists have to be active for a point to be admitted.
-fn needed_of(join: Join, lists: usize) -> usize
-    ensures { λ r. ⌜ r ≡ needed-of join lists ⌝ }
+fn in_every(lists: usize, present: &[bool; 16]) -> bool
+    requires { ⌜ lists ≤ 16 ⌝ }
+    ensures { λ r. ⌜ ((current : List ℤ) → r ≡ in-every (active lists (slots-with current present))) ⌝ }
 {
-    match join {
-        Join::Inner => lists,
-        Join::Full => 1,
+    let mut i: usize = 0;
+    while i < lists {
+        if !present[i] {
+            return false;
+        }
+        i += 1;
+    }
+    true
+}
+
+fn in_any(lists: usize, present: &[bool; 16]) -> bool
+    requires { ⌜ lists ≤ 16 ⌝ }
+    ensures { λ r. ⌜ ((current : List ℤ) → r ≡ in-any (active lists (slots-with current present))) ⌝ }
+{
+    let mut i: usize = 0;
+    while i < lists {
+        if present[i] {
+            return true;
+        }
+        i += 1;
+    }
+    false
+}
+
+fn in_odd(lists: usize, present: &[bool; 16]) -> bool
+    requires { ⌜ lists ≤ 16 ⌝ }
+    ensures { λ r. ⌜ ((current : List ℤ) → r ≡ in-odd (active lists (slots-with current present))) ⌝ }
+{
+    let mut odd = false;
+    let mut i: usize = lists;
+    while 0 < i {
+        i -= 1;
+        if present[i] {
+            odd = !odd;
+        }
+    }
+    odd
+}
+
+// Whether a point is admitted at which the lists are present as the places say, whatever their values.
+pub fn admits(admission: Admission, lists: usize, present: &[bool; 16]) -> bool
+    requires { ⌜ lists ≤ 16 ⌝ }
+    ensures { λ r. ⌜ ((current : List ℤ) → r ≡ admitted admission (active lists (slots-with current present))) ⌝ }
+{
+    match admission {
+        Admission::Every => in_every(lists, present),
+        Admission::Any => in_any(lists, present),
+        Admission::Odd => in_odd(lists, present),
     }
 }
 
-// What a join says of a stretch on which so many lists are active.
-pub fn say(
+// What a join says of a stretch on which the lists have what the places hold.
+pub fn rule_on(
+    admission: Admission,
     combiner: u8,
-    join: Join,
     lists: usize,
-    active_count: usize,
     current: &[i32; 16],
     present: &[bool; 16],
-) -> Said
-    requires { ⌜ Counted lists «active_count» (slots-of (now current) (now present)) ⌝ }
-    ensures { λ r. ⌜ says-of r ≡ rule-of (operation join combiner) (active lists (slots-of (now (current .entry)) (now (present .entry)))) ⌝ }
+) -> Ruling
+    requires { ⌜ lists ≤ 16 ⌝ }
+    ensures { λ r. ⌜ ruling-of r ≡ rule-of (Join admission combiner) (active lists (slots-before current present)) ⌝ }
 {
-    if active_count < needed_of(join, lists) {
-        return Said::Nothing;
+    if !admits(admission, lists, present) {
+        return Ruling::Nothing;
     }
-    let combined = combine(combiner, current, present, lists);
+    let combined = combine(combiner, lists, current, present);
     let Combined::Value(value) = combined else {
-        return Said::Nothing;
+        return Ruling::Nothing;
     };
-    Said::Value(value)
+    Ruling::Value(value)
 }
 
-// A stretch with the value that a join says of it.
-pub fn piece_of(range: Range, value: i64) -> Piece
-    ensures { λ r. ⌜ r ≡ record { start = range .start; end = range .end; value = value } ⌝ }
-{
-    Piece {
-        start: range.start,
-        end: range.end,
-        value,
-    }
-}
-
-// Whether a piece touches the next and has its value.
+// Whether a piece touches the next and has its value. The next starts later, so one can be added to its end.
 fn touches(pending: Piece, next: Piece) -> bool
     requires { ⌜ pending .end < next .start ⌝ }
     ensures { λ r. ⌜ r ≡ touch eqℤ (piece-of pending) (piece-of next) ⌝ }
@@ -93,10 +127,10 @@ fn touches(pending: Piece, next: Piece) -> bool
 
 // Merges a piece into the pending one if it touches and is equal; otherwise it is pending itself, and what was pending is done.
 pub fn push_merged(pending: Pending, next: Piece) -> Pushed
-    requires { ⌜ Apart pending next ⌝ }
-    ensures { λ r. ⌜ PushedOn pending next r ⌝ }
+    requires { ⌜ Within 0 (next .start) (waiting pending) ⌝ }
+    ensures { λ r. ⌜ PushedOn eqℤ (waiting pending) (piece-of next) (waiting (r .done)) (piece-of (r .pending)) ⌝ }
 {
-    let Pending::Held(piece) = pending else {
+    let Pending::One(piece) = pending else {
         return Pushed {
             pending: next,
             done: Pending::Nothing,
@@ -126,10 +160,10 @@ pub fn shortest(a: usize, b: usize, c: usize) -> usize
     shorter(a, shorter(b, c))
 }
 
-// The most pieces that so many ranges can give, and inner over zero lists.
+// The most pieces that so many ranges can give.
 pub fn most(ranges: usize) -> usize
     requires { ⌜ ranges ≤ 2048 ⌝ }
-    ensures { λ r. ⌜ r ≡ max 1 (2 * ranges - 1) ⌝ }
+    ensures { λ r. ⌜ r ≡ 2 * ranges - 1 ⌝ }
 {
-    if ranges == 0 { 1 } else { 2 * ranges - 1 }
+    if ranges == 0 { 0 } else { 2 * ranges - 1 }
 }

@@ -1,0 +1,21 @@
+-- What a join says by the presence of its lists and its combiner's answer. Assumes nothing.
+use Prim.Native.Nat.{ℕ, _≤_, min}
+use mathlib.Core.Path.{_≡_, sym, _∙_}
+use mathlib.Core.Bool.{Bool, true, false}
+use mathlib.Core.Option.{Option, none}
+use native.Mathlib.Omega.{arith}
+use lib.IntN.{ℤ}
+use Rattle.many_way_rules.specs.Combiners.{combine}
+use Rattle.many_way_rules.specs.Selections.{admitted}
+use Rattle.many_way_rules.specs.Operations.{rule-of}
+use Rattle.many_way_rules.specs.declared.Admission.{Admission}
+use Rattle.many_way_rules.specs.declared.Operation.the-variants.{Join}
+use Rattle.slots.specs.Slots.{Slots, active, values-of}
+
+module _ (a : Admission) (combiner n : ℕ) (s : Slots) {t : Bool} (e : t ≡ admitted a (active n s)) where
+  pub not-admitted : t ≡ false → none ≡ rule-of (Join a combiner) (active n s)
+  not-admitted h = rw (sym e ∙ h)
+
+  -- the combiner's answer
+  pub admitted-with : t ≡ true → n ≤ 16 → {o : Option ℤ} → o ≡ combine combiner (values-of (min n 16) s) → o ≡ rule-of (Join a combiner) (active n s)
+  admitted-with h few q = let m : min n 16 ≡ n = omega arith in rw (sym e ∙ h) (rw m at q)
