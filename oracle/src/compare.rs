@@ -1,4 +1,5 @@
-//! The comparison: every case through the crate and through the reading.
+//! The comparison: every case through the reading, the proved library and, where the lists are well
+//! formed, the crate.
 
 use std::panic::{AssertUnwindSafe, catch_unwind};
 
@@ -107,7 +108,7 @@ fn parts<T: Point>(plan: Plan) -> Vec<Part<T>> {
     parts
 }
 
-/// Holds the outcome that is due for a case against the reading.
+/// Holds the library, and the outcome that is due for a case, against the reading.
 fn check<T: Proved>(case: &Case<T>) -> Result<(), String> {
     let call = &case.call;
     let read = guarded("reading", || reading::outcome(call))?;
