@@ -13,6 +13,7 @@ pub mod boundary;
 pub mod call;
 pub mod case;
 pub mod compare;
+pub mod coverage;
 pub mod faults;
 pub mod generator;
 pub mod random;

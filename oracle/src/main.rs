@@ -13,7 +13,8 @@ SEED   seed of the random cases, a number (default 1)
 CASES  how many random cases, both widths together (default 400000)
 
 The comparison prints one line for each part. At the first difference or panic it prints the
-case and the answers of the two that differ, and ends with exit code 1.
+case and the answers of the two that differ, and ends with exit code 1; so it does when the
+library never gave a refusal that one of its operations can give.
 ";
 
 fn main() -> ExitCode {
@@ -52,8 +53,8 @@ fn compared(plan: Plan) -> ExitCode {
             println!("oracle: {cases} cases, 0 differences");
             ExitCode::SUCCESS
         }
-        Err(difference) => {
-            println!("oracle: a difference in {difference}");
+        Err(finding) => {
+            println!("oracle: {finding}");
             ExitCode::FAILURE
         }
     }
