@@ -1,8 +1,16 @@
-//! Links the proved library, which `tools/host_library c_api` builds for this machine.
+//! Links the proved library. GUINEATWIRL_LIBRARY names its folder, and tools/compare and tools/bench
+//! set that.
 
 fn main() {
-    let folder = std::path::Path::new(env!("CARGO_MANIFEST_DIR")).join("../target/host");
-    println!("cargo:rerun-if-changed={}", folder.join("libc_api.a").display());
-    println!("cargo:rustc-link-search=native={}", folder.display());
-    println!("cargo:rustc-link-lib=static=c_api");
+    println!("cargo::rerun-if-env-changed=GUINEATWIRL_LIBRARY");
+    let Ok(folder) = std::env::var("GUINEATWIRL_LIBRARY") else {
+        println!(
+            "cargo::error=GUINEATWIRL_LIBRARY does not name the folder of libc_api.a: run \
+             tools/compare or tools/bench, which build the library and set it"
+        );
+        return;
+    };
+    println!("cargo::rerun-if-changed={folder}/libc_api.a");
+    println!("cargo::rustc-link-search=native={folder}");
+    println!("cargo::rustc-link-lib=static=c_api");
 }

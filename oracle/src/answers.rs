@@ -1,6 +1,7 @@
 //! The fixed list of the oracle's answers, as it stands in `answers.txt`.
 
 use crate::call::{Call, Lent, MOST_RANGES, Operation, Outcome, Point, Tariff};
+use crate::case::{Case, Due};
 use crate::faults::{Fault, call_with, several};
 use crate::generator::{SMALL, even_columns, lists, most_pieces};
 use crate::random::Random;
@@ -10,7 +11,7 @@ const SEED: u64 = 1;
 const FILE: &str = concat!(env!("CARGO_MANIFEST_DIR"), "/answers.txt");
 
 const HEAD: &str = "\
-# The oracle's answers, as `cargo run --release -- answers` prints them.
+# The oracle's answers, as `tools/compare answers` prints them.
 # Well-formed lists went through the iterators of range-set-blaze 0.8.0; refusals 1 to 7 come
 # from the reading of document 01. The cases are the boundary sheet and random ones of a fixed
 # seed, of both widths.
@@ -35,45 +36,48 @@ const HEAD: &str = "\
 
 /// The whole list as text.
 pub fn text() -> String {
-    let blocks = blocks::<u32>().into_iter().chain(blocks::<i64>());
+    let (seats, instants) = (cases::<u32>(), cases::<i64>());
+    let blocks = seats.iter().map(block).chain(instants.iter().map(block));
     let numbered = blocks.zip(1..).map(|(block, number)| format!("case {number}\n{block}\n"));
     numbered.fold(HEAD.to_string(), |text, block| text + &block)
 }
 
-/// Holds the file against the text. Tells how many cases it has, or where the two part.
-pub fn compare_with_file() -> Result<u64, String> {
+/// Holds the file against the text. Tells where the two part.
+pub fn compare_with_file() -> Result<(), String> {
     let due = text();
     let found = std::fs::read_to_string(FILE).map_err(|error| format!("answers.txt: {error}"))?;
     if found == due {
-        return Ok(due.lines().filter(|line| line.starts_with("case ")).count() as u64);
+        return Ok(());
     }
     let same = due.lines().zip(found.lines()).take_while(|(due, found)| due == found).count();
     let line = |text: &str| text.lines().nth(same).unwrap_or("no line").to_string();
     let (due, found, line_number) = (line(&due), line(&found), same + 1);
-    Err(format!("answers.txt, line {line_number}\n\ndue:\n{due}\n\nfound:\n{found}\n"))
+    let at = format!("a difference in answers.txt, line {line_number}");
+    Err(format!("{at}\n\ndue:\n{due}\n\nfound:\n{found}\n"))
 }
 
-fn blocks<T: Point>() -> Vec<String> {
+/// The cases of one width. The crate's outcome is due, or the reading's refusal where the call is
+/// refused before any piece is found.
+pub fn cases<T: Point>() -> Vec<Case<T>> {
     let mut calls: Vec<Call<T>> = boundary::sheet().into_iter().map(|case| case.call).collect();
     calls.extend((0..60).map(ample));
     calls.extend((0..24).map(close_to_full));
     calls.extend([ladder(MOST_RANGES), ladder(MOST_RANGES + 1)]);
     calls.extend((0..48).map(refused));
-    calls.iter().map(block).collect()
+    let case = |(call, number): (Call<T>, u64)| {
+        let due = reading::refusal(call.operation, &call.lent).map_or(Due::TheCrate, Due::Refused);
+        Case { number, call, due }
+    };
+    calls.into_iter().zip(0..).map(case).collect()
 }
 
-fn block<T: Point>(call: &Call<T>) -> String {
-    let outcome = outcome(call);
+fn block<T: Point>(Case { call, due, .. }: &Case<T>) -> String {
+    let outcome = match due {
+        Due::Refused(answer) => Outcome { answer: *answer, columns: call.columns.clone() },
+        _ => blaze_side::outcome(call),
+    };
     let places = if outcome.answer.code == 0 { outcome.answer.number } else { 0 };
     text::call_lines(call) + &text::outcome_lines(&outcome, places as usize)
-}
-
-/// The crate's outcome, or the reading's where the call is refused before any piece is found.
-fn outcome<T: Point>(call: &Call<T>) -> Outcome<T> {
-    match reading::refusal(call.operation, &call.lent) {
-        Some(answer) => Outcome { answer, columns: call.columns.clone() },
-        None => blaze_side::outcome(call),
-    }
 }
 
 /// Well-formed lists with room enough, each operation in turn.
@@ -101,7 +105,7 @@ fn ladder<T: Point>(ranges: usize) -> Call<T> {
     let point = |place: usize| T::from_key(T::ZERO_KEY + place as u64);
     let tariff = |place| Tariff { start: point(place), end: point(place), value: 1 };
     let lent = Lent::from_lists(&[(0..ranges).map(tariff).collect()]);
-    let operation = Operation::Union;
+    let operation = Operation::Full(1);
     let columns = even_columns(&mut Random::of_case(SEED, "ladder", 0), operation, 1);
     Call { operation, lent, columns }
 }

@@ -80,13 +80,18 @@ fn at_the_greatest<T: Point>() -> Vec<Row<T>> {
     ]
 }
 
+/// One list under every operation, with an empty one beside it where there must be two.
 fn refused<T: Point>() -> Vec<Row<T>> {
-    let overlapping: [Rows; 1] = [&[(1, 5, 0), (5, 9, 0)]];
-    let backward: [Rows; 1] = [&[(1, 5, 0), (3, 2, 0)]];
-    vec![
-        (Operation::Union, lists(&overlapping), Due::Refused(Answer::new(6, 1))),
-        (Operation::Union, lists(&backward), Due::Refused(Answer::new(5, 1))),
-    ]
+    let row = |operation: Operation, list: Rows, answer| {
+        let set: &[Rows] = if operation.is_two_way() { &[list, &[]] } else { &[list] };
+        (operation, lists(set), Due::Refused(answer))
+    };
+    let rows = |operation| {
+        let overlapping = row(operation, &[(1, 5, 0), (5, 9, 0)], Answer::new(6, 1));
+        let backward = row(operation, &[(1, 5, 0), (3, 2, 0)], Answer::new(5, 1));
+        [overlapping, backward]
+    };
+    Operation::ALL.into_iter().flat_map(rows).collect()
 }
 
 fn point<T: Point>(number: u64) -> T {

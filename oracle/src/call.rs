@@ -60,7 +60,7 @@ impl Point for i64 {
 }
 
 /// An operation; a many-way join holds its combiner's number.
-#[derive(Clone, Copy, Debug, PartialEq, Eq)]
+#[derive(Clone, Copy, Debug, PartialEq, Eq, PartialOrd, Ord)]
 pub enum Operation {
     Events,
     TwoWayInner,
@@ -105,6 +105,15 @@ impl Operation {
         match self {
             Self::Inner(combiner) | Self::Full(combiner) => Some(combiner),
             _ => None,
+        }
+    }
+
+    /// Whether it can refuse a call with this code.
+    pub fn can_refuse(self, code: u8) -> bool {
+        match code {
+            2 => self.is_two_way(),
+            7 => self.combiner().is_some(),
+            _ => (1..=8).contains(&code),
         }
     }
 

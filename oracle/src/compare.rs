@@ -1,9 +1,11 @@
-//! The comparison: every case through the crate and through the reading.
+//! The comparison: every case through the reading, the proved library and, where the lists are well
+//! formed, the crate.
 
 use std::panic::{AssertUnwindSafe, catch_unwind};
 
 use crate::call::{Operation, Outcome, Point};
 use crate::case::{Case, Due};
+use crate::coverage::Coverage;
 use crate::rattle_side::{self, Proved};
 use crate::small_lists::{Universe, every_set};
 use crate::{answers, blaze_side, boundary, faults, generator, reading, text};
@@ -56,7 +58,8 @@ impl Default for Plan {
 /// A named part of the comparison.
 type Part<T> = (&'static str, Box<dyn Iterator<Item = Case<T>>>);
 
-/// Everything, both widths side by side. Tells how many cases there were, or the first difference.
+/// Everything, both widths side by side. Tells how many cases there were, or the first difference,
+/// or a refusal that the library can give and never gave.
 pub fn run(plan: Plan) -> Result<u64, String> {
     let (seats, instants) = std::thread::scope(|scope| {
         let seats = scope.spawn(|| run_width::<u32>(plan));
@@ -64,26 +67,38 @@ pub fn run(plan: Plan) -> Result<u64, String> {
         (seats.join().expect("a panic in a case is caught"), instants)
     });
     let cases = seats? + instants?;
-    let listed = answers::compare_with_file()?;
-    println!("answers.txt: {listed} cases");
-    Ok(cases + listed)
+    answers::compare_with_file()?;
+    Ok(cases)
 }
 
 fn run_width<T: Proved>(plan: Plan) -> Result<u64, String> {
+    let width = T::WIDTH;
     let mut all = 0;
+    let mut covered = Coverage::default();
     for (name, cases) in parts::<T>(plan) {
         let mut count = 0;
+        let mut proved = Coverage::default();
         for case in cases {
-            check(&case).map_err(|difference| {
-                let at = format!("{name}, {}, case {}, seed {}", T::WIDTH, case.number, plan.seed);
-                format!("{at}\n\n{}\n{difference}", text::call_lines(&case.call))
+            let code = check(&case).map_err(|difference| {
+                let at = format!("{name}, {width}, case {}, seed {}", case.number, plan.seed);
+                let call = text::call_lines(&case.call);
+                format!("a difference in {at}\n\n{call}\n{difference}")
             })?;
+            if let Some(code) = code {
+                proved.count(case.call.operation, code);
+            }
             count += 1;
         }
-        println!("{} {name}: {count} cases", T::WIDTH);
+        println!("{width} {name}: {count} cases, by the library {proved}");
         all += count;
+        covered.add(proved);
     }
-    Ok(all)
+    match covered.missing() {
+        Some((operation, code)) => {
+            Err(format!("the library never refused {operation} of {width} with code {code}"))
+        }
+        None => Ok(all),
+    }
 }
 
 /// The parts for one width. Half the random cases are well formed, a quarter try every room, and
@@ -91,7 +106,11 @@ fn run_width<T: Proved>(plan: Plan) -> Result<u64, String> {
 fn parts<T: Point>(plan: Plan) -> Vec<Part<T>> {
     let seed = plan.seed;
     let quarter = plan.random_cases.div_ceil(8);
-    let mut parts: Vec<Part<T>> = vec![("boundary sheet", Box::new(boundary::sheet().into_iter()))];
+    let mut parts: Vec<Part<T>> = vec![
+        ("boundary sheet", Box::new(boundary::sheet().into_iter())),
+        ("calls of answers.txt", Box::new(answers::cases().into_iter())),
+        ("each refusal", Box::new(faults::each_refusal(seed).into_iter())),
+    ];
     for (name, universe) in UNIVERSES {
         parts.push((name, Box::new(every_set(universe))));
     }
@@ -107,12 +126,14 @@ fn parts<T: Point>(plan: Plan) -> Vec<Part<T>> {
     parts
 }
 
-/// Holds the outcome that is due for a case against the reading.
-fn check<T: Proved>(case: &Case<T>) -> Result<(), String> {
+/// Holds the library, and the outcome that is due for a case, against the reading. Tells the code
+/// of the library, where it has the operation.
+fn check<T: Proved>(case: &Case<T>) -> Result<Option<u8>, String> {
     let call = &case.call;
     let read = guarded("reading", || reading::outcome(call))?;
-    if let Some(proved) = rattle_side::outcome(call) {
-        agree("library", &proved, &read)?;
+    let proved = rattle_side::outcome(call);
+    if let Some(proved) = &proved {
+        agree("library", proved, &read)?;
     }
     match &case.due {
         Due::TheCrate => agree("crate", &guarded("crate", || blaze_side::outcome(call))?, &read),
@@ -127,7 +148,8 @@ fn check<T: Proved>(case: &Case<T>) -> Result<(), String> {
             }
             agree("crate", &blaze_side::outcome(call), &read)
         }
-    }
+    }?;
+    Ok(proved.map(|outcome| outcome.answer.code))
 }
 
 fn agree<T: Point>(name: &str, due: &Outcome<T>, read: &Outcome<T>) -> Result<(), String> {

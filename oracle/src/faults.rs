@@ -2,7 +2,9 @@
 
 use crate::call::{Answer, Call, Lent, MOST_LISTS, MOST_RANGES, Operation, Point};
 use crate::case::{Case, Due};
-use crate::generator::{Size, USUAL, lists, lists_of_ranges, most_pieces, uneven_columns};
+use crate::generator::{
+    Size, USUAL, lists, lists_of_ranges, most_pieces, one_place_short, uneven_columns,
+};
 use crate::random::Random;
 
 /// What can be wrong with a call, in the order in which document 01 judges it.
@@ -45,9 +47,29 @@ pub fn malformed<T: Point>(seed: u64, number: u64) -> Case<T> {
     let random = &mut Random::of_case(seed, "malformed", number);
     let faults = if random.once_in(3) { several(random) } else { vec![random.pick(&Fault::ALL)] };
     let (mut call, answer) = call_with(random, &faults, USUAL);
+    give_room(random, &mut call);
+    Case { number, call, due: Due::Refused(answer) }
+}
+
+/// Every refusal of every operation by itself: each fault that can befall it, and too little room.
+pub fn each_refusal<T: Point>(seed: u64) -> Vec<Case<T>> {
+    let random = &mut Random::of_case(seed, "each refusal", 0);
+    let mut cases = Vec::new();
+    for operation in Operation::ALL {
+        for fault in Fault::ALL.into_iter().filter(|fault| fault.can_befall(operation)) {
+            let (mut call, answer) = call_of(random, operation, &[fault], USUAL);
+            give_room(random, &mut call);
+            cases.push((call, Due::Refused(answer)));
+        }
+        cases.push((one_place_short(random, operation), Due::TheCrate));
+    }
+    let case = |((call, due), number)| Case { number, call, due };
+    cases.into_iter().zip(0..).map(case).collect()
+}
+
+fn give_room<T: Point>(random: &mut Random, call: &mut Call<T>) {
     let room = random.below(most_pieces(&call.lent));
     call.columns = uneven_columns(random, call.operation, room);
-    Case { number, call, due: Due::Refused(answer) }
 }
 
 /// Some of the faults; at least one that can befall every operation.
@@ -61,6 +83,16 @@ pub fn call_with<T: Point>(random: &mut Random, faults: &[Fault], size: Size) ->
     let befallen = |operation: &Operation| faults.iter().any(|fault| fault.can_befall(*operation));
     let operations: Vec<_> = Operation::ALL.into_iter().filter(befallen).collect();
     let operation = random.pick(&operations);
+    call_of(random, operation, faults, size)
+}
+
+/// The same for one operation, which one of the faults can befall.
+fn call_of<T: Point>(
+    random: &mut Random,
+    operation: Operation,
+    faults: &[Fault],
+    size: Size,
+) -> (Call<T>, Answer) {
     let lent = sound_lists(random, operation, faults.contains(&Fault::TooManyRanges), size);
     let columns = uneven_columns(random, operation, 0);
     let mut call = Call { operation, lent, columns };

@@ -1,5 +1,6 @@
 //! Random well-formed calls. A case is repeatable from its seed and number.
 
+use crate::blaze_side;
 use crate::call::{Call, Columns, Lent, MOST_LISTS, MOST_RANGES, Operation, Point, Tariff};
 use crate::case::{Case, Due};
 use crate::random::Random;
@@ -69,6 +70,18 @@ pub fn every_room<T: Point>(seed: u64, cases: u64) -> impl Iterator<Item = Case<
         call,
         due: Due::TheCrate,
     })
+}
+
+/// Small lists that give a piece at least, with one place less than their pieces need.
+pub fn one_place_short<T: Point>(random: &mut Random, operation: Operation) -> Call<T> {
+    loop {
+        let lent = Lent::from_lists(&lists(random, operation, SMALL));
+        let needed = blaze_side::pieces(operation, &lent).count() as u64;
+        if needed > 0 {
+            let columns = uneven_columns(random, operation, needed - 1);
+            return Call { operation, lent, columns };
+        }
+    }
 }
 
 /// More pieces than any operation needs over these lists.

@@ -1,5 +1,5 @@
-//! The oracle of the joins: the crate's own iterators, an independent reading of document 01,
-//! and the cases on which the two are held against each other.
+//! The oracle of the joins: the crate's own iterators, an independent reading of document 01, the
+//! proved library, and the cases on which the three are held against each other.
 
 extern crate alloc;
 
@@ -13,6 +13,7 @@ pub mod boundary;
 pub mod call;
 pub mod case;
 pub mod compare;
+pub mod coverage;
 pub mod faults;
 pub mod generator;
 pub mod random;

@@ -5,7 +5,7 @@ use std::process::ExitCode;
 use oracle::compare::{self, Plan};
 
 const HELP: &str = "\
-oracle [SEED [CASES]]   compare the crate with the reading of document 01
+oracle [SEED [CASES]]   compare the crate, the reading of document 01 and the proved library
 oracle answers          print the fixed list of answers (answers.txt)
 oracle --help           print this
 
@@ -13,7 +13,8 @@ SEED   seed of the random cases, a number (default 1)
 CASES  how many random cases, both widths together (default 400000)
 
 The comparison prints one line for each part. At the first difference or panic it prints the
-case and both answers, and ends with exit code 1.
+case and the answers of the two that differ, and ends with exit code 1; so it does when the
+library never gave a refusal that one of its operations can give.
 ";
 
 fn main() -> ExitCode {
@@ -52,8 +53,8 @@ fn compared(plan: Plan) -> ExitCode {
             println!("oracle: {cases} cases, 0 differences");
             ExitCode::SUCCESS
         }
-        Err(difference) => {
-            println!("oracle: a difference in {difference}");
+        Err(finding) => {
+            println!("oracle: {finding}");
             ExitCode::FAILURE
         }
     }

@@ -1,3 +1,6 @@
+// The cases of the form checker's test, in tables of letters, and what their letters mean.
+
+use many_way_rules::known;
 use rules::Kind;
 ghost use Prim.Native.Nat.{_<_, _≤_};
 
@@ -156,7 +159,7 @@ pub(crate) fn kind(letter: u8, combiner: u8) -> Kind {
     match letter {
         b'l' => Kind::Listing,
         b't' => Kind::TwoWay,
-        b'j' => Kind::Join((number(combiner) % 256) as u8),
+        b'j' => Kind::Join(known((number(combiner) % 256) as u8)),
         _ => Kind::Selection,
     }
 }

@@ -1,3 +1,5 @@
+// The cases over columns of instants.
+
 use crate::cases::counts;
 use crate::cases::few;
 use crate::cases::kind;

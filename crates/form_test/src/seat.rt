@@ -1,3 +1,5 @@
+// The cases over columns of seats.
+
 use crate::cases::counts;
 use crate::cases::few;
 use crate::cases::kind;

@@ -6,7 +6,7 @@ use native.Mathlib.Omega.{arith}
 use native.Mathlib.Decide.{ℕ-discrete}
 use borrow.Author.Tests.{eq-eqb, ne-eqb}
 use Rattle.heap.specs.Order.{Ordered, one, count}
-use Rattle.heap.specs.Heap.{rank, Held, Whole, Heap}
+use Rattle.heap.specs.Heap.{rank, Entries, Whole, Heap}
 
 pub by-eq : {C : Type 0} (a b : ℕ) → (a ≡ b → C) → ((a ≡ b → ⊥) → C) → C
 by-eq {C} a b f g = pick (ℕ-discrete a b)
@@ -74,6 +74,6 @@ module _ (f : ℕ → ℕ) where
   top-counted e n o h = let c = counted e n h in omega (arith, top-least n o (c .0) (c .1), c .2)
 
 -- a heap of no entries, whatever stands in the arrays
-pub heap-none : {h : Held} → Whole h → Heap h 0
+pub heap-none : {h : Entries} → Whole h → Heap h 0
 unfolding Ordered
 heap-none w = record { whole = w; small = omega arith; ordered = λ p i u l. absurd (omega arith) }

@@ -8,8 +8,8 @@ use mir.Val.{boolByte}
 use borrow.Author.Tests.{ltb-true, ltb-false, eqb-true, eqb-false}
 use Rattle.integer.specs.Order.{Less}
 use Rattle.heap.specs.Order.{Under, Ordered, one, count}
-use Rattle.heap.specs.Heap.{rank, Held, Heap, Pushed, Popped, Topped}
-use Rattle.heap.specs.Holes.{OrderedBut, Stored, Replaced, Sunk, Lowers, Raises, Chosen, Put, Climbed, Sifted}
+use Rattle.heap.specs.Heap.{rank, Entries, Heap, Pushed, Popped, Topped}
+use Rattle.heap.specs.Holes.{OrderedBut, Stored, Replaced, Sunk, Lowers, Raises, Chosen, PutAt, Climbed, Sifted}
 use Rattle.heap.proofs.Laws.{by-eq, count-more, count-none, heap-none}
 
 -- the order of entries, as the code tests it
@@ -100,14 +100,14 @@ sift-on {f} {m} {g} {n} {place} {c} {v} w ch l k s =
 pub one-parent : (f : ℕ → ℕ) (p : ℕ) {place v : ℕ} → Under p place → f p ≤ v → (q : ℕ) → Under q place → f q ≤ v
 one-parent f p u l q x = let z : q ≡ p = omega arith in omega (arith, ap f z)
 
-module _ {h r : Held} {place v : ℕ} where
-  pub climb-stays : Put h r place v → ((p : ℕ) → Under p place → h .at p ≤ v) → Climbed h r place v
+module _ {h r : Entries} {place v : ℕ} where
+  pub climb-stays : PutAt h r place v → ((p : ℕ) → Under p place → h .at p ≤ v) → Climbed h r place v
   climb-stays s up = record { whole = s .whole; settled = λ n o. rests (s .stored) (o .inside) (o .ordered) up (o .below) }
 
-  pub climb-goes : {m : Held} {p : ℕ} → Under p place → v < h .at p → Put h m place (h .at p) → Climbed m r p v → Climbed h r place v
+  pub climb-goes : {m : Entries} {p : ℕ} → Under p place → v < h .at p → PutAt h m place (h .at p) → Climbed m r p v → Climbed h r place v
   climb-goes u l s c = record { whole = c .whole; settled = λ n o. moved (o .inside) (omega arith) (s .stored) (c .settled n (climb-on o u l (s .stored))) }
 
-  pub sift-stays : {n : ℕ} → Put h r place v → ((i : ℕ) → Under place i → i < n → v ≤ h .at i) → Sifted h r n place v
+  pub sift-stays : {n : ℕ} → PutAt h r place v → ((i : ℕ) → Under place i → i < n → v ≤ h .at i) → Sifted h r n place v
   unfolding Ordered OrderedBut
   sift-stays s down = record {
     whole = s .whole;
@@ -120,7 +120,7 @@ module _ {h r : Held} {place v : ℕ} where
         };
   }
 
-  pub sift-goes : {m : Held} {n c : ℕ} → Chosen (h .at) n place c → h .at c < v → Sifted h m n c v → Put m r place (h .at c) → Sifted h r n place v
+  pub sift-goes : {m : Entries} {n c : ℕ} → Chosen (h .at) n place c → h .at c < v → Sifted h m n c v → PutAt m r place (h .at c) → Sifted h r n place v
   unfolding Ordered
   sift-goes {m} {n} {c} ch l k s = record {
     whole = s .whole;
@@ -155,7 +155,7 @@ pub one-more : (r : Bool) → boolByte r ≤ 1
 one-more true = omega arith
 one-more false = omega arith
 
-module _ {h r : Held} {n v : ℕ} (o : Heap h n) where
+module _ {h r : Entries} {n v : ℕ} (o : Heap h n) where
   pub pushed : n < 16 → Climbed h r n v → Pushed h r n v
   unfolding Ordered OrderedBut
   pushed l c =
@@ -176,7 +176,7 @@ module _ {h r : Held} {n v : ℕ} (o : Heap h n) where
       record { heap = record { whole = c .whole; small = o .small; ordered = t .ordered }; kept = t .kept }
 
 -- the last entry takes the place of the top; where it is the top, nothing is left
-pub popped : {h r : Held} {n : ℕ} → Heap h n → 0 < n → Sifted h r (n - 1) 0 (h .at (n - 1)) → Popped h r n
+pub popped : {h r : Entries} {n : ℕ} → Heap h n → 0 < n → Sifted h r (n - 1) 0 (h .at (n - 1)) → Popped h r n
 unfolding Ordered
 popped {h} {r} {n} o l c =
     let q : n - 1 + 1 ≡ n = omega arith in

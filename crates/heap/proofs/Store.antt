@@ -5,10 +5,10 @@ use mathlib.Core.List.{List}
 use native.Mathlib.Omega.{arith}
 use lib.ListN.{length-set, set}
 use lib.Seq.{getD-set-same, getD-set-other}
-use Rattle.heap.specs.Heap.{rank, held, Whole}
-use Rattle.heap.specs.Holes.{Put}
+use Rattle.heap.specs.Heap.{rank, entries-of, Whole}
+use Rattle.heap.specs.Holes.{PutAt}
 
-pub stored : (keys lists : List ℕ) (place key list : ℕ) → Whole (held keys lists) → place < 16 → Put (held keys lists) (held (set keys place key) (set lists place list)) place (rank key list)
+pub stored : (keys lists : List ℕ) (place key list : ℕ) → Whole (entries-of keys lists) → place < 16 → PutAt (entries-of keys lists) (entries-of (set keys place key) (set lists place list)) place (rank key list)
 stored keys lists place key list h l = record {
   whole = record { keys = length-set keys place key ∙ h .keys; lists = length-set lists place list ∙ h .lists };
   stored = record {

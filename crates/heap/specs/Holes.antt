@@ -2,7 +2,7 @@
 use Prim.Native.Nat.{ℕ, _+_, _<_, _≤_}
 use mathlib.Core.Path.{_≡_}
 use Rattle.heap.specs.Order.{Under, Ordered, one, count}
-use Rattle.heap.specs.Heap.{Held, Whole}
+use Rattle.heap.specs.Heap.{Entries, Whole}
 
 -- in order but for what stands at a place
 unfoldable pub OrderedBut : (ℕ → ℕ) → ℕ → ℕ → Type 0
@@ -46,14 +46,14 @@ pub record Chosen (f : ℕ → ℕ) (n place c : ℕ) : Type 0 where
   pub least : (i : ℕ) → Under place i → i < n → f c ≤ f i
 
 -- what a store, a climb and a sift give
-pub record Put (h r : Held) (place v : ℕ) : Type 0 where
+pub record PutAt (h r : Entries) (place v : ℕ) : Type 0 where
   pub whole : Whole r
   pub stored : Stored (h .at) (r .at) place v
 
-pub record Climbed (h r : Held) (place v : ℕ) : Type 0 where
+pub record Climbed (h r : Entries) (place v : ℕ) : Type 0 where
   pub whole : Whole r
   pub settled : (n : ℕ) → Lowers (h .at) n place v → Replaced (h .at) (r .at) n place v
 
-pub record Sifted (h r : Held) (n place v : ℕ) : Type 0 where
+pub record Sifted (h r : Entries) (n place v : ℕ) : Type 0 where
   pub whole : Whole r
   pub settled : Raises (h .at) n place v → Sunk (h .at) (r .at) n place v

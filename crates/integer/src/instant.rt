@@ -1,3 +1,5 @@
+// Instants: i64, whose key is the distance from the least.
+
 ghost use mathlib.Core.Path.{_≡_};
 ghost use Prim.Native.Nat.{_+_, _<_};
 ghost use lib.ListN.{length, set};

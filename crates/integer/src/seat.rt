@@ -1,3 +1,5 @@
+// Seats: u32, whose key is the number itself.
+
 ghost use mathlib.Core.Path.{_≡_};
 ghost use Prim.Native.Nat.{_+_, _<_};
 ghost use lib.ListN.{length, set};

@@ -1,3 +1,5 @@
+// Facts of instants.
+
 use crate::say;
 use integer::instant::Next;
 use integer::instant::Point;

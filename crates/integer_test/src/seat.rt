@@ -1,3 +1,5 @@
+// Facts of seats.
+
 use crate::say;
 use integer::seat::Next;
 use integer::seat::Point;

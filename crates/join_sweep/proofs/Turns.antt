@@ -1,42 +1,42 @@
 -- What a join keeps as it takes the held event, and as it lets time go on. Assumes nothing.
 use Prim.Native.Nat.{ℕ, _+_, _*_, _-_, _≤_, _<_}
 use mathlib.Core.Path.{_≡_, refl, sym, ap, _∙_, subst}
-use mathlib.Core.Logic.{inl, inr}
+use mathlib.Core.Logic.{⊎-elim}
 use mathlib.Core.Bool.{true, false}
 use mathlib.Core.Option.{none, some}
 use mathlib.Core.List.{List, _∷_}
 use native.Mathlib.Omega.{arith}
 use lib.IntN.{ℤ}
 use lib.ListN.{length, set, length-set}
-use Rattle.rules.specs.Piece.{Range}
+use Rattle.rules.specs.Piece.{Range, present}
 use Rattle.rules.specs.Lists.{Width}
-use Rattle.rules.specs.ManyWay.{present}
 use Rattle.rules.specs.Sweep as rules
 use Rattle.rules.specs.Proving.Moments.{moment}
 use Rattle.multiway_sweep.specs.Front.{apply, Front, Next as Due}
-use Rattle.multiway_sweep.specs.Steps.{Columns, Arrays, On, Sweeping, Took, Holds, Stepped}
+use Rattle.multiway_sweep.specs.Steps.{Reading, Arrays, On, Sweeping, Took, Holds, Stepped}
 use Rattle.multiway_sweep.specs.declared.Range.{Range as Span}
 use Rattle.multiway_sweep.specs.declared.Sizes.{Sizes}
 use Rattle.multiway_sweep.specs.declared.Step.{Step}
 use Rattle.multiway_sweep.specs.declared.Step.the-variants.{Start, End, Done}
-use Rattle.multiway_sweep.proofs.Sorts.{Not}
 use Rattle.multiway_sweep.proofs.Front.{front-take, front-move, front-list, front-starts, front-ends}
-use Rattle.join_sweep.specs.Active.{Slots, slots-of, active}
-use Rattle.join_sweep.specs.Stretches.{after, moment-of, StartsAt, Busy, Ready, Joining, Opened}
+use Rattle.slots.specs.Slots.{Slots, active}
+use Rattle.join_sweep.specs.Stretches.{after, moment-of, StartsAt, EndsAt, EndsWith, StartsWith, Busy, Ready, Joining, Opened}
+use Rattle.join_sweep.specs.declared.Ended.the-variants.{Of as EndOf}
+use Rattle.join_sweep.specs.declared.Started.the-variants.{Of as StartOf}
 use Rattle.join_sweep.specs.declared.JoinSweep.{JoinSweep}
 use Rattle.join_sweep.specs.declared.LastEnd.{LastEnd}
 use Rattle.join_sweep.specs.declared.LastEnd.the-variants.{Nothing, At}
-use Rattle.join_sweep.proofs.Active.{active-length, absent-set, present-set, count-upto, count-more, count-less}
+use Rattle.slots.proofs.Slots.{active-length, absent-set, present-set, count-upto, count-more, count-less}
 
 -- what is held happens at u or later
 abbrev pub Later : ℕ → Step → Type 0
 Later u = On (λ e. u ≤ moment e) (Unit {0})
 
 -- what a step of the sweep answers is held
-pub stepped-ready : {P : Type 0} {w : Width P} {c : Columns P} {a b : Arrays} {z : Sizes} {rest : List (rules.Event ℤ)} {r : Step} → Sweeping w c a z rest → ((rest : List (rules.Event ℤ)) → Sweeping w c a z rest → Stepped w c a b rest r) → Ready w c b r rest
+pub stepped-ready : {P : Type 0} {w : Width P} {c : Reading P} {a b : Arrays} {z : Sizes} {rest : List (rules.Event ℤ)} {r : Step} → Sweeping w c a z rest → ((rest : List (rules.Event ℤ)) → Sweeping w c a z rest → Stepped w c a b rest r) → Ready w c b r rest
 stepped-ready {rest = rest} s st = record { holds = st rest s .1 }
 
-module _ {P : Type 0} {w : Width P} {c : Columns P} {ls : List (List Range)} {a : Arrays} {s : Slots} {j : JoinSweep} {t : ℕ} (g : Joining w c ls a s j t) where
+module _ {P : Type 0} {w : Width P} {c : Reading P} {ls : List (List Range)} {a : Arrays} {s : Slots} {j : JoinSweep} {t : ℕ} (g : Joining w c ls a s j t) where
   -- what is held, told otherwise
   as-held : {r : Step} → j .held ≡ r → Joining w c ls a s (record { held = r; «active_count» = j .«active_count» }) t
   as-held h = record { formed = g .formed; current-long = g .current-long; present-long = g .present-long; counted = g .counted; left = g .left; front = g .front; holds = rw h at (g .holds) }
@@ -111,7 +111,7 @@ module _ {P : Type 0} {w : Width P} {c : Columns P} {ls : List (List Range)} {a 
     pub some-active : 0 < j .«active_count»
     some-active = omega (arith, fewer)
 
-    pub ended : {b : Arrays} {r : Step} → ((rest : List (rules.Event ℤ)) → Sweeping w c a z rest → Stepped w c a b rest r) → t ≡ 2 * at + 1 → Joining w c ls b (slots-of (s .current) (set (s .present) list false)) (record { held = r; «active_count» = j .«active_count» - 1 }) t
+    pub ended : {b : Arrays} {r : Step} → ((rest : List (rules.Event ℤ)) → Sweeping w c a z rest → Stepped w c a b rest r) → t ≡ 2 * at + 1 → Joining w c ls b (record { current = s .current; present = set (s .present) list false }) (record { held = r; «active_count» = j .«active_count» - 1 }) t
     ended st e =
         taken end-held st (sym e) _ _ (g .current-long) (length-set (s .present) list false ∙ g .present-long) (absent-set s (length ls) list (omega (arith, end-list, g .present-long))) (omega (arith, fewer))
 
@@ -136,59 +136,44 @@ module _ {P : Type 0} {w : Width P} {c : Columns P} {ls : List (List Range)} {a 
     pub start-few : (list < 16) × (j .«active_count» < 16)
     start-few = (list-few start-held, omega (arith, more, g .counted .few, count-upto (set (active (length ls) s) list (some v)), length-set (active (length ls) s) list (some v), active-length (length ls) s))
 
-    pub started : {u : ℤ} → u ≡ v → {b : Arrays} {r : Step} → ((rest : List (rules.Event ℤ)) → Sweeping w c a z rest → Stepped w c a b rest r) → t ≡ 2 * y .start → Joining w c ls b (slots-of (set (s .current) list u) (set (s .present) list true)) (record { held = r; «active_count» = j .«active_count» + 1 }) t
+    pub started : {u : ℤ} → u ≡ v → {b : Arrays} {r : Step} → ((rest : List (rules.Event ℤ)) → Sweeping w c a z rest → Stepped w c a b rest r) → t ≡ 2 * y .start → Joining w c ls b (record { current = set (s .current) list u; present = set (s .present) list true }) (record { held = r; «active_count» = j .«active_count» + 1 }) t
     started k st e =
         rw k
         (taken start-held st (omega arith) _ _ (length-set (s .current) list v ∙ g .current-long) (length-set (s .present) list true ∙ g .present-long)
         (present-set s (length ls) list (omega (arith, start-few, g .present-long)) v (omega (arith, start-few, g .current-long))) more)
 
--- the ends of the last stretch are taken
-module _ {P : Type 0} {w : Width P} {c : Columns P} {ls : List (List Range)} {a : Arrays} {s : Slots} {j : JoinSweep} {last : LastEnd} where
-  pub closed-none : last ≡ Nothing → Joining w c ls a s j (moment-of last) → Joining w c ls a s j (2 * after last)
-  closed-none k g = rw k (rw k at g)
+-- the ends of the last stretch are taken: then so is all that happened before the next point
+module _ {P : Type 0} {w : Width P} {c : Reading P} {ls : List (List Range)} {a : Arrays} {s : Slots} {j : JoinSweep} (last : LastEnd) (g : Joining w c ls a s j (moment-of last)) where
+  pub closed : (EndsAt last (j .held) → ⊥) → Joining w c ls a s j (2 * after last)
+  closed n = go last refl
+    where
+      later : (e : ℕ) → last ≡ At e → (r : Step) → j .held ≡ r → Later (2 * (e + 1)) r
+      later e k (Start y list v z) h = omega (arith, ap moment-of k, start-due g h)
+      later e k (End at list z) h =
+          let d : at ≡ e → ⊥ = λ q. n (rw h (k ∙ ap At (sym q))) in
+          omega (arith, ap moment-of k, d, end-due g h)
+      later e k Done h = tt
 
-  pub at-end : {e : ℕ} → last ≡ At e → Joining w c ls a s j (moment-of last) → Joining w c ls a s j (2 * e + 1)
-  at-end k g = rw k at g
+      go : (l : LastEnd) → last ≡ l → Joining w c ls a s j (2 * after l)
+      go Nothing k = rw k at g
+      go (At e) k = moved g (2 * (e + 1)) (omega (arith, ap moment-of k)) (later e k (j .held) refl)
 
-  module _ (e : ℕ) (k : last ≡ At e) (g : Joining w c ls a s j (2 * e + 1)) where
-    abbrev Closed : Step → Type 0
-    Closed r = Joining w c ls a s (record { held = r; «active_count» = j .«active_count» }) (2 * after last)
-
-    later : after last ≡ e + 1
-    later = ap after k
-
-    pub closed-else : Not 1 (j .held) → Closed (j .held)
-    closed-else n = moved g (2 * after last) (omega (arith, later)) (go (j .held) refl n)
-      where
-        go : (r : Step) → j .held ≡ r → Not 1 r → Later (2 * after last) r
-        go (Start y list v z) h n = omega (arith, later, start-due g h)
-        go (End at list z) h n = absurd (n refl)
-        go Done h n = tt
-
-    pub closed-end : {at list : ℕ} {z : Sizes} → j .held ≡ End at list z → (at ≡ e → ⊥) → Closed (End at list z)
-    closed-end h ne = moved (as-held g h) (2 * after last) (omega (arith, later)) (omega (arith, later, ne, end-due g h))
-
-opened : {P : Type 0} {w : Width P} {c : Columns P} {ls : List (List Range)} {a : Arrays} {s : Slots} {j : JoinSweep} {start : ℕ} → Joining w c ls a s j (2 * start) → Busy start j → Later (2 * start + 1) (j .held) → (StartsAt start (j .held) → ⊥) → Opened w c ls a s j start
-opened {j = j} {start = start} g busy l not = record { joining = g; taken = later-left g (2 * start + 1) l; busy = go busy }
-  where
-    go : Busy start j → 0 < j .«active_count»
-    go (inl k) = k
-    go (inr k) = absurd (not k)
+  -- one of them is held
+  module _ {list : ℕ} {z : Sizes} (h : EndsWith (j .held) last (EndOf list z)) where
+    pub turn-ended : {b : Arrays} {r : Step} → ((rest : List (rules.Event ℤ)) → Sweeping w c a z rest → Stepped w c a b rest r) → Joining w c ls b (record { current = s .current; present = set (s .present) list false }) (record { held = r; «active_count» = j .«active_count» - 1 }) (moment-of last)
+    turn-ended st = ended g (h .2) st (ap moment-of (h .1))
 
 -- the starts of a point are taken
-module _ {P : Type 0} {w : Width P} {c : Columns P} {ls : List (List Range)} {a : Arrays} {s : Slots} {j : JoinSweep} (start : ℕ) (g : Joining w c ls a s j (2 * start)) (busy : Busy start j) where
-  pub opened-else : Not 0 (j .held) → Opened w c ls a s j start
-  opened-else n = opened g busy (go (j .held) refl n) (not (j .held) n)
+module _ {P : Type 0} {w : Width P} {c : Reading P} {ls : List (List Range)} {a : Arrays} {s : Slots} {j : JoinSweep} (start : ℕ) (g : Joining w c ls a s j (2 * start)) where
+  pub opened : Busy start j → (StartsAt start (j .held) → ⊥) → Opened w c ls a s j start
+  opened busy n = record { joining = g; taken = later-left g (2 * start + 1) (later (j .held) refl); busy = ⊎-elim (λ k. k) (λ k. absurd (n k)) busy }
     where
-      go : (r : Step) → j .held ≡ r → Not 0 r → Later (2 * start + 1) r
-      go (Start y list v z) h n = absurd (n refl)
-      go (End at list z) h n = omega (arith, end-due g h)
-      go Done h n = tt
+      later : (r : Step) → j .held ≡ r → Later (2 * start + 1) r
+      later (Start y list v z) h = let d : start ≡ y .start → ⊥ = λ q. n (rw h q) in omega (arith, d, start-due g h)
+      later (End at list z) h = omega (arith, end-due g h)
+      later Done h = tt
 
-      not : (r : Step) → Not 0 r → StartsAt start r → ⊥
-      not (Start y list v z) n k = n refl
-      not (End at list z) n k = k
-      not Done n k = k
-
-  pub opened-start : {y : Span} {list : ℕ} {v : ℤ} {z : Sizes} → j .held ≡ Start y list v z → (y .start ≡ start → ⊥) → Opened w c ls a s (record { held = Start y list v z; «active_count» = j .«active_count» }) start
-  opened-start h ne = opened (as-held g h) (rw h at busy) (omega (arith, ne, start-due g h)) (λ k. ne (sym k))
+  -- one of them is held
+  module _ {list : ℕ} {v : ℤ} {z : Sizes} (h : StartsWith (j .held) start (StartOf list v z)) where
+    pub turn-started : {u : ℤ} → u ≡ v → {b : Arrays} {r : Step} → ((rest : List (rules.Event ℤ)) → Sweeping w c a z rest → Stepped w c a b rest r) → Joining w c ls b (record { current = set (s .current) list u; present = set (s .present) list true }) (record { held = r; «active_count» = j .«active_count» + 1 }) (2 * start)
+    turn-started k st = started g (h .2) k st (omega (arith, h .1))

@@ -1,4 +1,2 @@
--- What the contracts of a join's sweep say. Assumes nothing.
-pub mod Active
+-- What the contracts of a join's sweep say.
 pub mod Stretches
-pub mod Begins

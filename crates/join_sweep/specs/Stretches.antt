@@ -1,23 +1,28 @@
--- Where a join's sweep stands, and what the next stretch is. Assumes nothing.
+-- Where a join's sweep stands, and the next stretch that it finds. Assumes nothing.
 use Prim.Native.Nat.{ℕ, _+_, _*_, _≤_, _<_}
 use mathlib.Core.Path.{_≡_}
 use mathlib.Core.Logic.{_⊎_}
 use mathlib.Core.List.{List}
 use lib.IntN.{ℤ}
 use lib.ListN.{length}
-use Rattle.rules.specs.Piece.{Range, column, AllWellFormed}
+use Rattle.heap.specs.Heap.{entries-of, Whole}
+use Rattle.rules.specs.Piece.{Range, present, AllWellFormed}
 use Rattle.rules.specs.Lists.{Width}
-use Rattle.rules.specs.ManyWay.{present}
 use Rattle.rules.specs.Sweep as rules
-use Rattle.rules.specs.Proving.Below.{nones}
+use Rattle.slots.specs.Slots.{Slots, active}
+use Rattle.slots.specs.Stretch.{Stretch as StretchOf, NoStretch}
 use Rattle.multiway_sweep.specs.Front.{edge, Front, Next as Due}
-use Rattle.multiway_sweep.specs.Steps.{Columns, Arrays, NoStart, On, Holds}
+use Rattle.multiway_sweep.specs.Steps.{Reading, Arrays, NoStart, On, Holds}
 use Rattle.multiway_sweep.specs.declared.Range.{Range as Span}
+use Rattle.multiway_sweep.specs.declared.Sizes.{Sizes}
 use Rattle.multiway_sweep.specs.declared.Step.{Step}
 use Rattle.multiway_sweep.specs.declared.Step.the-variants.{Start, End, Done}
-use Rattle.join_sweep.specs.Active.{Slots, active, Counted}
 use Rattle.join_sweep.specs.declared.Begin.{Begin}
 use Rattle.join_sweep.specs.declared.Begin.the-variants.{At as BeginAt, Nowhere}
+use Rattle.join_sweep.specs.declared.Ended.{Ended}
+use Rattle.join_sweep.specs.declared.Ended.the-variants.{Of as EndOf, Nothing as NoEnd}
+use Rattle.join_sweep.specs.declared.Started.{Started}
+use Rattle.join_sweep.specs.declared.Started.the-variants.{Of as StartOf, Nothing as NotStarting}
 use Rattle.join_sweep.specs.declared.JoinSweep.{JoinSweep}
 use Rattle.join_sweep.specs.declared.LastEnd.{LastEnd}
 use Rattle.join_sweep.specs.declared.LastEnd.the-variants.{Nothing, At}
@@ -29,6 +34,21 @@ abbrev pub StartsAt : ℕ → Step → Type 0
 StartsAt s (Start x list value z) = s ≡ x .start
 StartsAt s (End key list z) = ⊥
 StartsAt s Done = ⊥
+
+-- the end of the last stretch is held
+abbrev pub EndsAt : LastEnd → Step → Type 0
+EndsAt last (Start x list value z) = ⊥
+EndsAt last (End key list z) = last ≡ At key
+EndsAt last Done = ⊥
+
+-- which list's range ends with the last stretch, and which list's range starts at s, if such an event is held
+abbrev pub EndsWith : Step → LastEnd → Ended → Type 0
+EndsWith h last (EndOf list z) = (e : ℕ) × (last ≡ At e) × (h ≡ End e list z)
+EndsWith h last NoEnd = EndsAt last h → ⊥
+
+abbrev pub StartsWith : Step → ℕ → Started → Type 0
+StartsWith h s (StartOf list value z) = (x : Span) × (s ≡ x .start) × (h ≡ Start x list value z)
+StartsWith h s NotStarting = StartsAt s h → ⊥
 
 -- something is active, or a start at s is held
 abbrev pub Busy : ℕ → JoinSweep → Type 0
@@ -60,14 +80,25 @@ Ahead s = On (λ e. s < edge e) ⊥
 abbrev pub Reached : Step → ℕ → Type 0
 Reached h r = On (λ e. r + 1 ≡ edge e) ⊥ h
 
-module _ {P : Type 0} (w : Width P) (c : Columns P) where
+-- arrays for a sweep
+pub record Blank (a : Arrays) : Type 0 where
+  pub cursors-long : length (a .cursors) ≡ 32
+  pub starts-whole : Whole (entries-of (a .start-keys) (a .start-lists))
+  pub ends-whole : Whole (entries-of (a .end-keys) (a .end-lists))
+
+-- so many of the lists are active
+pub record Counted (lists n : ℕ) (s : Slots) : Type 0 where
+  pub few : lists ≤ 16
+  pub count : n ≡ length (present (active lists s))
+
+module _ {P : Type 0} (w : Width P) (c : Reading P) where
   -- of the events that are left the first is held
   pub record Ready (a : Arrays) (held : Step) (left : List (rules.Event ℤ)) : Type 0 where
     pub holds : Holds w c a held left
 
-  module _ (ls : List (List Range)) (a : Arrays) (s : Slots) (j : JoinSweep) where
+  module _ (ls : List (List Range)) (a : Arrays) (s : Slots) where
     -- at the moment t a join has taken the events before, and has what the lists have then
-    pub record Joining (t : ℕ) : Type 0 where
+    pub record Joining (j : JoinSweep) (t : ℕ) : Type 0 where
       pub formed : AllWellFormed (w .points) ls
       pub current-long : length (s .current) ≡ 16
       pub present-long : length (s .present) ≡ 16
@@ -77,24 +108,12 @@ module _ {P : Type 0} (w : Width P) (c : Columns P) where
       pub holds : Holds w c a (j .held) left
 
     -- the starts of a point are taken, and something is active
-    pub record Opened (start : ℕ) : Type 0 where
-      pub joining : Joining (2 * start)
+    pub record Opened (j : JoinSweep) (start : ℕ) : Type 0 where
+      pub joining : Joining j (2 * start)
       pub taken : Due (2 * start + 1) (joining .left)
       pub busy : 0 < j .«active_count»
 
-    -- x is the first stretch from k on: the lists have nothing before it, and on it what is active
-    pub record Stretches (k : ℕ) (x : Span) : Type 0 where
-      pub later : k ≤ x .start
-      pub order : x .start ≤ x .end
-      pub below : x .end < w .points
-      pub gap : (p : ℕ) → k ≤ p → p < x .start → column ls p ≡ nones ls
-      pub on : (p : ℕ) → x .start ≤ p → p ≤ x .end → column ls p ≡ active (length ls) s
-      pub joining : Joining (2 * x .end + 1)
-
-  -- the first stretch from k on, or the lists have nothing there
-  abbrev pub First : List (List Range) → Arrays → Slots → ℕ → Stretch → Type 0
-  First ls a s k NoMore = (p : ℕ) → k ≤ p → p < w .points → column ls p ≡ nones ls
-  First ls a s k (Spans x j) = Stretches ls a s j k x
-
-  pub record Found (ls : List (List Range)) (a : Arrays) (s : Slots) (k : ℕ) (r : Stretch) : Type 0 where
-    pub is : First ls a s k r
+    -- the first stretch from k on and the sweep at its end, or there is none
+    abbrev pub Finds : ℕ → Stretch → Type 0
+    Finds k NoMore = NoStretch (w .points) ls k
+    Finds k (Spans x j) = StretchOf (w .points) ls k (active (length ls) s) (x .start) (x .end) × Joining j (2 * x .end + 1)

@@ -1,7 +1,11 @@
+// A join's sweep, after JoinSweep of the Rust, but for its columns and arrays: which lists begin and end with a stretch, where it
+// begins and how far it reaches.
+
 use multiway_sweep::Range;
+use multiway_sweep::Sizes;
 use multiway_sweep::Step;
 ghost use Prim.Native.Nat.{_+_, _≤_};
-ghost use Rattle.join_sweep.specs.Stretches.{after, Begun, BegunAfter, Ahead, Reached};
+ghost use Rattle.join_sweep.specs.Stretches.{after, Begun, BegunAfter, EndsWith, StartsWith, Ahead, Reached};
 
 // A join's sweep, but for its arrays: the held event, with the sizes of the heaps after it, and how many lists are active.
 pub struct JoinSweep {
@@ -27,7 +31,50 @@ pub enum Begin {
     Nowhere,
 }
 
-// With nothing active, a stretch begins at the next range's start; else where the last one ended.
+// A list whose range ends, with the sizes of the heaps after that event; or the held event is none of the sort.
+pub enum Ended {
+    Of(usize, Sizes),
+    Nothing,
+}
+
+// A list whose range starts, with its value and the sizes of the heaps after that event; or the held event is none of the sort.
+pub enum Started {
+    Of(usize, i32, Sizes),
+    Nothing,
+}
+
+// The list whose range ended with the last stretch, where that is the held event.
+pub fn ending(held: Step, last_end: LastEnd) -> Ended
+    ensures { λ r. ⌜ EndsWith held «last_end» r ⌝ }
+{
+    let LastEnd::At(end) = last_end else {
+        return Ended::Nothing;
+    };
+    let Step::End(at, list, sizes) = held else {
+        return Ended::Nothing;
+    };
+    if at == end {
+        Ended::Of(list, sizes)
+    } else {
+        Ended::Nothing
+    }
+}
+
+// The list whose range starts at a point, where that is the held event.
+pub fn starting(held: Step, start: u64) -> Started
+    ensures { λ r. ⌜ StartsWith held start r ⌝ }
+{
+    let Step::Start(range, list, value, sizes) = held else {
+        return Started::Nothing;
+    };
+    if range.start == start {
+        Started::Of(list, value, sizes)
+    } else {
+        Started::Nothing
+    }
+}
+
+// With nothing active, a stretch begins at the next range's start; else at the first point after the last one.
 fn begin_from(sweep: JoinSweep, from: u64) -> Begin
     ensures { λ r. ⌜ Begun sweep from r ⌝ }
 {

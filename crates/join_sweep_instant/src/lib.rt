@@ -1,134 +1,71 @@
+// A join's sweep over lent columns: the stretches on which the same lists are active with the same values, one after the other.
+
 use integer::instant::Point;
 use integer::instant::greatest_key;
 use join_sweep::Begin;
+use join_sweep::Ended;
 use join_sweep::JoinSweep;
 use join_sweep::LastEnd;
+use join_sweep::Started;
 use join_sweep::Stretch;
 use join_sweep::begin_after;
+use join_sweep::ending;
 use join_sweep::reach;
-use multiway_step_instant::fill;
-use multiway_step_instant::step;
+use join_sweep::starting;
 use multiway_sweep::Range;
 use multiway_sweep::Step;
-ghost use Prim.Native.Nat.{_*_, _≤_};
+use multiway_sweep_instant::fill;
+use multiway_sweep_instant::step;
+ghost use Prim.Native.Nat.{_≤_};
 ghost use mathlib.Core.List.{List};
 ghost use Rattle.rules.specs.Piece as rules;
-ghost use Rattle.rules.specs.Lists.{instants, lists, lent};
+ghost use Rattle.rules.specs.Lists.{instants, lists, lent, given};
 ghost use Rattle.rules.specs.Sweep.{events};
-ghost use Rattle.multiway_sweep.specs.Steps.{columns, arrays};
-ghost use Rattle.join_sweep.specs.Active.{slots-of};
-ghost use Rattle.join_sweep.specs.Stretches.{after, moment-of, Busy, Ready, Joining, Opened, Found};
-ghost use Rattle.join_sweep.specs.Begins.{Formed, Blank};
+ghost use Rattle.rules.specs.Refusals.{Formed};
+ghost use Rattle.rules.specs.declared.Kind.{Kind};
+ghost use Rattle.slots.specs.Slots.{slots, slots-before, slots-after};
+ghost use Rattle.multiway_sweep.specs.Steps.{reading, read, arrays, arrays-before, arrays-after};
+ghost use Rattle.join_sweep.specs.Stretches.{after, moment-of, Blank, Ready, Joining, Finds};
 
-// Deactivates every range that ended with the last stretch: those ends are the next events.
-fn deactivate(
+// Lays the cursors and the heap of the first starts, and takes the first event.
+pub fn first_event(
     starts: &[Point],
     ends: &[Point],
     values: &[i32],
-    stops: &[usize; 16],
-    next: &mut [usize; 16],
+    counts: &[u32],
+    cursors: &mut [usize; 32],
     start_keys: &mut [u64; 16],
     start_lists: &mut [u8; 16],
     end_keys: &mut [u64; 16],
     end_lists: &mut [u8; 16],
-    current: &[i32; 16],
-    present: &mut [bool; 16],
-    sweep: JoinSweep,
-    last_end: LastEnd,
-) -> JoinSweep
-    requires { ⌜ ((ls : List (List rules.Range)) × Joining instants (columns (now starts) (now ends) (now values)) ls (arrays (now next) (now stops) (now «start_keys») (now «start_lists») (now «end_keys») (now «end_lists»)) (slots-of (now current) (now present)) sweep (moment-of «last_end»)) ⌝ }
+) -> Step
+    requires formed { ⌜ ((k : Kind) × Formed instants k (lent starts ends values counts)) ⌝ }
+    requires blank { ⌜ Blank (arrays cursors «start_keys» «start_lists» «end_keys» «end_lists») ⌝ }
     ensures { λ r.
-        let c = columns (now (starts .entry)) (now (ends .entry)) (now (values .entry)) in
-        let a = arrays (now (next .entry)) (now (stops .entry)) (now («start_keys» .entry)) (now («start_lists» .entry)) (now («end_keys» .entry)) (now («end_lists» .entry)) in
-        let b = arrays (now (next .exit)) (now (stops .entry)) (now («start_keys» .exit)) (now («start_lists» .exit)) (now («end_keys» .exit)) (now («end_lists» .exit)) in
-        ⌜ ((ls : List (List rules.Range)) → Joining instants c ls a (slots-of (now (current .entry)) (now (present .entry))) sweep (moment-of «last_end») → Joining instants c ls b (slots-of (now (current .entry)) (now (present .exit))) r (2 * after «last_end»)) ⌝ }
+        let a = arrays-after cursors «start_keys» «start_lists» «end_keys» «end_lists» in
+        ⌜ Ready instants (read starts ends values) a r (events (lists instants (given starts ends values counts))) ⌝ }
 {
-    let LastEnd::At(end) = last_end else {
-        return sweep;
-    };
-    let mut held = sweep.held;
-    let mut active_count = sweep.active_count;
-    loop {
-        let Step::End(at, list, sizes) = held else {
-            return JoinSweep { held, active_count };
-        };
-        if at != end {
-            return JoinSweep { held, active_count };
-        }
-        present[list] = false;
-        active_count -= 1;
-        held = step(
-            starts,
-            ends,
-            values,
-            stops,
-            next,
-            start_keys,
-            start_lists,
-            end_keys,
-            end_lists,
-            sizes,
-        );
-    }
+    let sizes = fill(starts, counts, cursors, start_keys, start_lists);
+    step(
+        starts,
+        ends,
+        values,
+        cursors,
+        start_keys,
+        start_lists,
+        end_keys,
+        end_lists,
+        sizes,
+    )
 }
 
-// Activates every range that starts at a point.
-fn activate(
-    starts: &[Point],
-    ends: &[Point],
-    values: &[i32],
-    stops: &[usize; 16],
-    next: &mut [usize; 16],
-    start_keys: &mut [u64; 16],
-    start_lists: &mut [u8; 16],
-    end_keys: &mut [u64; 16],
-    end_lists: &mut [u8; 16],
-    current: &mut [i32; 16],
-    present: &mut [bool; 16],
-    sweep: JoinSweep,
-    start: u64,
-) -> JoinSweep
-    requires { ⌜ ((ls : List (List rules.Range)) × Joining instants (columns (now starts) (now ends) (now values)) ls (arrays (now next) (now stops) (now «start_keys») (now «start_lists») (now «end_keys») (now «end_lists»)) (slots-of (now current) (now present)) sweep (2 * start)) × Busy start sweep ⌝ }
-    ensures { λ r.
-        let c = columns (now (starts .entry)) (now (ends .entry)) (now (values .entry)) in
-        let a = arrays (now (next .entry)) (now (stops .entry)) (now («start_keys» .entry)) (now («start_lists» .entry)) (now («end_keys» .entry)) (now («end_lists» .entry)) in
-        let b = arrays (now (next .exit)) (now (stops .entry)) (now («start_keys» .exit)) (now («start_lists» .exit)) (now («end_keys» .exit)) (now («end_lists» .exit)) in
-        ⌜ ((ls : List (List rules.Range)) → Joining instants c ls a (slots-of (now (current .entry)) (now (present .entry))) sweep (2 * start) → Opened instants c ls b (slots-of (now (current .exit)) (now (present .exit))) r start) ⌝ }
-{
-    let mut held = sweep.held;
-    let mut active_count = sweep.active_count;
-    loop {
-        let Step::Start(range, list, value, sizes) = held else {
-            return JoinSweep { held, active_count };
-        };
-        if range.start != start {
-            return JoinSweep { held, active_count };
-        }
-        current[list] = value;
-        present[list] = true;
-        active_count += 1;
-        held = step(
-            starts,
-            ends,
-            values,
-            stops,
-            next,
-            start_keys,
-            start_lists,
-            end_keys,
-            end_lists,
-            sizes,
-        );
-    }
-}
-
-// Advances to the next stretch; the places then hold what the lists have on it.
+// Advances to the next stretch: what ended with the last one is deactivated, what starts here is activated, and the stretch runs to
+// the next event. The places then hold what the lists have on it.
 pub fn next_stretch(
     starts: &[Point],
     ends: &[Point],
     values: &[i32],
-    stops: &[usize; 16],
-    next: &mut [usize; 16],
+    cursors: &mut [usize; 32],
     start_keys: &mut [u64; 16],
     start_lists: &mut [u8; 16],
     end_keys: &mut [u64; 16],
@@ -138,82 +75,63 @@ pub fn next_stretch(
     sweep: JoinSweep,
     last_end: LastEnd,
 ) -> Stretch
-    requires { ⌜ ((ls : List (List rules.Range)) × Joining instants (columns (now starts) (now ends) (now values)) ls (arrays (now next) (now stops) (now «start_keys») (now «start_lists») (now «end_keys») (now «end_lists»)) (slots-of (now current) (now present)) sweep (moment-of «last_end»)) × (after «last_end» ≤ instants .points) ⌝ }
+    requires joining {
+        let a = arrays cursors «start_keys» «start_lists» «end_keys» «end_lists» in
+        ⌜ ((ls : List (List rules.Range)) × Joining instants (reading starts ends values) ls a (slots current present) sweep (moment-of «last_end»)) ⌝ }
+    requires within { ⌜ after «last_end» ≤ instants .points ⌝ }
     ensures { λ r.
-        let c = columns (now (starts .entry)) (now (ends .entry)) (now (values .entry)) in
-        let a = arrays (now (next .entry)) (now (stops .entry)) (now («start_keys» .entry)) (now («start_lists» .entry)) (now («end_keys» .entry)) (now («end_lists» .entry)) in
-        let b = arrays (now (next .exit)) (now (stops .entry)) (now («start_keys» .exit)) (now («start_lists» .exit)) (now («end_keys» .exit)) (now («end_lists» .exit)) in
-        ⌜ ((ls : List (List rules.Range)) → Joining instants c ls a (slots-of (now (current .entry)) (now (present .entry))) sweep (moment-of «last_end») → Found instants c ls b (slots-of (now (current .exit)) (now (present .exit))) (after «last_end») r) ⌝ }
+        let c = read starts ends values in
+        let a = arrays-before cursors «start_keys» «start_lists» «end_keys» «end_lists» in
+        let b = arrays-after cursors «start_keys» «start_lists» «end_keys» «end_lists» in
+        let s = slots-before current present in
+        let t = slots-after current present in
+        ⌜ ((ls : List (List rules.Range)) → Joining instants c ls a s sweep (moment-of «last_end») → Finds instants c ls b t (after «last_end») r) ⌝ }
 {
-    let closed = deactivate(
-        starts,
-        ends,
-        values,
-        stops,
-        next,
-        start_keys,
-        start_lists,
-        end_keys,
-        end_lists,
-        current,
-        present,
-        sweep,
-        last_end,
-    );
-    let begun = begin_after(closed, last_end, greatest_key());
-    let Begin::At(start) = begun else {
+    let mut held = sweep.held;
+    let mut active_count = sweep.active_count;
+    loop {
+        let ended = ending(held, last_end);
+        let Ended::Of(list, sizes) = ended else {
+            break;
+        };
+        present[list] = false;
+        active_count -= 1;
+        held = step(
+            starts,
+            ends,
+            values,
+            cursors,
+            start_keys,
+            start_lists,
+            end_keys,
+            end_lists,
+            sizes,
+        );
+    }
+    let begin = begin_after(JoinSweep { held, active_count }, last_end, greatest_key());
+    let Begin::At(start) = begin else {
         return Stretch::Done;
     };
-    let opened = activate(
-        starts,
-        ends,
-        values,
-        stops,
-        next,
-        start_keys,
-        start_lists,
-        end_keys,
-        end_lists,
-        current,
-        present,
-        closed,
-        start,
-    );
-    let held = opened.held;
+    loop {
+        let started = starting(held, start);
+        let Started::Of(list, value, sizes) = started else {
+            break;
+        };
+        current[list] = value;
+        present[list] = true;
+        active_count += 1;
+        held = step(
+            starts,
+            ends,
+            values,
+            cursors,
+            start_keys,
+            start_lists,
+            end_keys,
+            end_lists,
+            sizes,
+        );
+    }
     let end = reach(start, held);
-    Stretch::Next(Range { start, end }, opened)
-}
-
-// Lays the sweep of the lists, and holds its first event.
-pub fn first_event(
-    starts: &[Point],
-    ends: &[Point],
-    values: &[i32],
-    counts: &[u32],
-    stops: &mut [usize; 16],
-    next: &mut [usize; 16],
-    start_keys: &mut [u64; 16],
-    start_lists: &mut [u8; 16],
-    end_keys: &mut [u64; 16],
-    end_lists: &mut [u8; 16],
-) -> Step
-    requires { ⌜ Formed instants (lent (now starts) (now ends) (now values) (now counts)) × Blank (arrays (now next) (now stops) (now «start_keys») (now «start_lists») (now «end_keys») (now «end_lists»)) ⌝ }
-    ensures { λ r.
-        let l = lent (now (starts .entry)) (now (ends .entry)) (now (values .entry)) (now (counts .entry)) in
-        let b = arrays (now (next .exit)) (now (stops .exit)) (now («start_keys» .exit)) (now («start_lists» .exit)) (now («end_keys» .exit)) (now («end_lists» .exit)) in
-        ⌜ Ready instants (columns (l .starts) (l .ends) (l .values)) b r (events (lists instants l)) ⌝ }
-{
-    let sizes = fill(starts, counts, stops, next, start_keys, start_lists);
-    step(
-        starts,
-        ends,
-        values,
-        stops,
-        next,
-        start_keys,
-        start_lists,
-        end_keys,
-        end_lists,
-        sizes,
-    )
+    Stretch::Next(Range { start, end }, JoinSweep { held, active_count })
 }

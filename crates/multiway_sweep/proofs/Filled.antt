@@ -13,7 +13,7 @@ use lib.ListN.{length, getD, take, set, length-set, List·getD-eq-default}
 use lib.Seq.{getD-set-same, getD-set-other}
 use borrow.Author.Count.{below-more}
 use borrow.Author.Tests.{lt-ltb, le-ltb}
-use Rattle.heap.specs.Heap.{Held, Whole, held, rank, Pushed}
+use Rattle.heap.specs.Heap.{Entries, Whole, entries-of, rank, Pushed}
 use Rattle.heap.proofs.Laws.{by-eq, count-none, heap-none}
 use Rattle.rules.specs.Piece.{Piece, AllWellFormed}
 use Rattle.rules.specs.Lists.{Width, keys, ranges, cut, total}
@@ -22,7 +22,8 @@ use Rattle.rules.proofs.At.{le-or-lt}
 use Rattle.rules.proofs.Columns.{cut-length}
 use Rattle.multiway_sweep.specs.Cursors.{fresh, fresh-all}
 use Rattle.multiway_sweep.specs.Stands.{Holds, tally, first-start, at, actives, Stands}
-use Rattle.multiway_sweep.specs.Begins.{Fillable, Filled}
+use Rattle.multiway_sweep.specs.Steps.{next-at, stop-at}
+use Rattle.multiway_sweep.specs.Begins.{Fills}
 use Rattle.multiway_sweep.proofs.Cursors.{left-first}
 use Rattle.multiway_sweep.proofs.Holds.{holds-pushed, holds-same}
 
@@ -61,8 +62,8 @@ module _ {A : Type 0} where
   fresh-idle [] = refl
   fresh-idle (l ∷ ls) = omega (arith, fresh-idle ls)
 
-holds-empty : {h : Held} {f : ℕ → Option ℕ} → Whole h → ((i : ℕ) → f i ≡ none) → Holds h 0 f
-holds-empty {h} w q = record { heap = heap-none w; held = λ key list l. count-none (h .at) (rank key list) ∙ ap (λ o. tally o key) (sym (q list)) }
+holds-empty : {h : Entries} {f : ℕ → Option ℕ} → Whole h → ((i : ℕ) → f i ≡ none) → Holds h 0 f
+holds-empty {h} w q = record { heap = heap-none w; has = λ key list l. count-none (h .at) (rank key list) ∙ ap (λ o. tally o key) (sym (q list)) }
 
 -- the first start of a list of n ranges
 abbrev opening : ℕ → ℕ → Option ℕ
@@ -90,36 +91,41 @@ module _ (s : ℕ → ℕ) (ns : List ℕ) where
       go (inr h) = rw (lt-ltb i (k + 1) (omega arith), lt-ltb i k h)
 
   -- the cursors of the first k lists are laid, and the next list begins at a place
-  pub record Laid (long : ℕ) (next stops : List ℕ) (h : Held) (size k from : ℕ) : Type 0 where
+  pub record Laid (long : ℕ) (cursors : List ℕ) (h : Entries) (size k from : ℕ) : Type 0 where
     pub few : length ns ≤ 16
     pub adds-up : total ns ≡ long
     pub below : k ≤ length ns
     pub small : size ≤ k
     pub begins : from ≡ total (take k ns)
-    pub next-long : length next ≡ 16
-    pub stops-long : length stops ≡ 16
-    pub next-at : (i : ℕ) → i < k → getD next i 0 ≡ total (take i ns)
-    pub stops-at : (i : ℕ) → i < k → getD stops i 0 ≡ total (take (i + 1) ns)
+    pub cursors-long : length cursors ≡ 32
+    pub next-laid : (i : ℕ) → i < k → next-at cursors i ≡ total (take i ns)
+    pub stop-laid : (i : ℕ) → i < k → stop-at cursors i ≡ total (take (i + 1) ns)
     pub firsts : Holds h size (opens k)
 
-  pub laid-none : {long : ℕ} {next stops start-keys start-lists : List ℕ} → Fillable long ns next stops start-keys start-lists → Laid long next stops (held start-keys start-lists) 0 0 0
-  laid-none f = record {
-    few = f .few;
-    adds-up = f .adds-up;
+  pub laid-none : {long : ℕ} {cursors : List ℕ} {h : Entries} → length ns ≤ 16 → total ns ≡ long → length cursors ≡ 32 → Whole h → Laid long cursors h 0 0 0
+  laid-none few adds-up cursors-long whole = record {
+    few = few;
+    adds-up = adds-up;
     below = omega arith;
     small = omega arith;
     begins = refl;
-    next-long = f .next-long;
-    stops-long = f .stops-long;
-    next-at = λ i l. absurd (omega arith);
-    stops-at = λ i l. absurd (omega arith);
-    firsts = holds-empty (f .whole) (λ i. rw (le-ltb i 0 (omega arith)));
+    cursors-long = cursors-long;
+    next-laid = λ i l. absurd (omega arith);
+    stop-laid = λ i l. absurd (omega arith);
+    firsts = holds-empty whole (λ i. rw (le-ltb i 0 (omega arith)));
   }
 
   -- one more list
-  module _ {long : ℕ} {next stops : List ℕ} {h : Held} {size k from : ℕ} (g : Laid long next stops h size k from) (more : k < length ns) where
+  module _ {long : ℕ} {cursors : List ℕ} {h : Entries} {size k from : ℕ} (g : Laid long cursors h size k from) (more : k < length ns) where
     abbrev stop : ℕ
     stop = from + getD ns k 0
+
+    -- the list's cursor, and where it stops
+    abbrev onward : List ℕ
+    onward = set (set cursors k from) (16 + k) stop
+
+    onward-at : (i : ℕ) → (i ≡ 16 + k → ⊥) → (i ≡ k → ⊥) → getD onward i 0 ≡ getD cursors i 0
+    onward-at i p q = getD-set-other (set cursors k from) (16 + k) i stop 0 p ∙ getD-set-other cursors k i from 0 q
 
     ends-at : stop ≡ total (take (k + 1) ns)
     ends-at = omega (arith, g .begins, total-take k ns)
@@ -127,27 +133,30 @@ module _ (s : ℕ → ℕ) (ns : List ℕ) where
     pub laid-within : stop ≤ long
     laid-within = omega (arith, g .adds-up, ends-at, total-upto (k + 1) ns)
 
-    laid-more : {r : Held} {m : ℕ} → m ≤ k + 1 → Holds r m (opens (k + 1)) → Laid long (set next k from) (set stops k stop) r m (k + 1) stop
+    laid-more : {r : Entries} {m : ℕ} → m ≤ k + 1 → Holds r m (opens (k + 1)) → Laid long onward r m (k + 1) stop
     laid-more l f = record {
       few = g .few;
       adds-up = g .adds-up;
       below = omega arith;
       small = l;
       begins = ends-at;
-      next-long = length-set next k from ∙ g .next-long;
-      stops-long = length-set stops k stop ∙ g .stops-long;
-      next-at = below-more _ k (λ i l. getD-set-other next k i from 0 (λ q. omega arith) ∙ g .next-at i l) (getD-set-same next k from 0 (omega (arith, g .few, g .next-long)) ∙ g .begins);
-      stops-at = below-more _ k (λ i l. getD-set-other stops k i stop 0 (λ q. omega arith) ∙ g .stops-at i l) (getD-set-same stops k stop 0 (omega (arith, g .few, g .stops-long)) ∙ ends-at);
+      cursors-long = length-set (set cursors k from) (16 + k) stop ∙ length-set cursors k from ∙ g .cursors-long;
+      next-laid = below-more _ k
+          (λ i l. onward-at i (λ q. omega arith) (λ q. omega arith) ∙ g .next-laid i l)
+          (getD-set-other (set cursors k from) (16 + k) k stop 0 (λ q. omega arith) ∙ getD-set-same cursors k from 0 (omega (arith, g .few, g .cursors-long)) ∙ g .begins);
+      stop-laid = below-more _ k
+          (λ i l. onward-at (16 + i) (λ q. omega arith) (λ q. omega (arith, g .few)) ∙ g .stop-laid i l)
+          (getD-set-same (set cursors k from) (16 + k) stop 0 (omega (arith, g .few, g .cursors-long, length-set cursors k from)) ∙ ends-at);
       firsts = f;
     }
 
-    pub laid-empty : stop ≤ from → Laid long (set next k from) (set stops k stop) h size (k + 1) stop
+    pub laid-empty : stop ≤ from → Laid long onward h size (k + 1) stop
     laid-empty l = laid-more (omega (arith, g .small)) (holds-same same (g .firsts))
       where
         same : (i : ℕ) → opens (k + 1) i ≡ opens k i
         same i = by-eq i k (λ q. let z : getD ns i 0 ≡ 0 = omega (arith, ap (λ j. getD ns j 0) q) in rw (lt-ltb i (k + 1) (omega arith), z, le-ltb i k (omega arith))) (opens-other k i)
 
-    pub laid-push : {r : Held} {key : ℕ} → from < stop → key ≡ s from → Pushed h r size (rank key k) → Laid long (set next k from) (set stops k stop) r (size + 1) (k + 1) stop
+    pub laid-push : {r : Entries} {key : ℕ} → from < stop → key ≡ s from → Pushed h r size (rank key k) → Laid long onward r (size + 1) (k + 1) stop
     laid-push {key = key} l q p = laid-more (omega (arith, g .small)) (holds-pushed (g .firsts) k (omega (arith, g .few)) (opens-other k) (rw (le-ltb k k (omega arith))) first p)
       where
         first : opens (k + 1) k ≡ some key
@@ -158,18 +167,18 @@ module _ {A : Type 0} (n : ℕ) (s e : ℕ → ℕ) (v : ℕ → A) (ns : List �
   abbrev ls : List (List (Piece A))
   ls = cut s e v 0 ns
 
-  all-laid : {long : ℕ} {next stops : List ℕ} {h q : Held} {size k from : ℕ} → Laid s ns long next stops h size k from → length ns ≤ k → Whole q → AllWellFormed n ls → Stands n s e v long (record { next = λ i. getD next i 0; stops = λ i. getD stops i 0; starts = h; active-ends = q }) size 0 (events ls)
-  all-laid {next = next} {stops = stops} {k = k} g all w wf = record {
+  all-laid : {long : ℕ} {cursors : List ℕ} {h q : Entries} {size k from : ℕ} → Laid s ns long cursors h size k from → length ns ≤ k → Whole q → AllWellFormed n ls → Stands n s e v long (record { next = next-at cursors; stops = stop-at cursors; starts = h; active-ends = q }) size 0 (events ls)
+  all-laid {cursors = cursors} {k = k} g all w wf = record {
     cursors = fresh-all ls;
     few = omega (arith, g .few, all-of);
     sound = left-first n ls wf .0;
     lies = λ i h.
-        let p = g .next-at i (omega (arith, all-of)) in
-        let z : getD stops i 0 - getD next i 0 ≡ getD ns i 0 = omega (arith, p, g .stops-at i (omega (arith, all-of)), total-take i ns) in
+        let p = g .next-laid i (omega (arith, all-of)) in
+        let z : stop-at cursors i - next-at cursors i ≡ getD ns i 0 = omega (arith, p, g .stop-laid i (omega (arith, all-of)), total-take i ns) in
         as-cut i ∙ rw (z, p);
-    inside = λ i h. omega (arith, g .adds-up, g .stops-at i (omega (arith, all-of)), total-upto (i + 1) ns);
-    starts-held = holds-same opened (g .firsts);
-    ends-held = holds-empty w (λ i. ap (λ c. c .active) (fresh-at i ls));
+    inside = λ i h. omega (arith, g .adds-up, g .stop-laid i (omega (arith, all-of)), total-upto (i + 1) ns);
+    holds-starts = holds-same opened (g .firsts);
+    holds-ends = holds-empty w (λ i. ap (λ c. c .active) (fresh-at i ls));
     counted = sym (fresh-idle ls);
     is-left = left-first n ls wf .1;
   }
@@ -187,11 +196,10 @@ module _ {A : Type 0} (n : ℕ) (s e : ℕ → ℕ) (v : ℕ → A) (ns : List �
           go (inl h) = let l : length ns ≤ i = omega arith in rw (List·getD-eq-default ns 0 l, le-ltb i k h)
           go (inr h) = rw (lt-ltb i k h)
 
-pub filled : {P : Type 0} (w : Width P) {starts : List P} {ns next stops start-keys start-lists : List ℕ} {size k from : ℕ} → Laid (keys w starts) ns (length starts) next stops (held start-keys start-lists) size k from → length ns ≤ k → Filled w starts ns next stops start-keys start-lists (record { starts = size; «active_ends» = 0 })
+pub filled : {P : Type 0} (w : Width P) {starts : List P} {ns cursors start-keys start-lists : List ℕ} {size k from : ℕ} → Laid (keys w starts) ns (length starts) cursors (entries-of start-keys start-lists) size k from → length ns ≤ k → Fills w starts ns cursors start-keys start-lists (record { starts = size; «active_ends» = 0 })
 filled w {starts} {ns} g all end-keys end-lists whole ends values p q wf = record {
   starts-long = p;
   ends-long = q;
-  next-long = g .next-long;
-  stops-long = g .stops-long;
+  cursors-long = g .cursors-long;
   stands = rw (sym p) (all-laid (w .points) (keys w starts) (keys w ends) (λ i. getD values i (pos 0)) ns g all whole wf);
 }

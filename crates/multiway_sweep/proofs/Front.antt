@@ -15,7 +15,7 @@ use Rattle.rules.specs.Piece.{column}
 use Rattle.rules.specs.Proving.Below.{nones}
 use Rattle.rules.specs.Sweep.{Event, starts, ends, list, put, sort, own, listed, events, All, In}
 use Rattle.rules.specs.Proving.Moments.{moment, Before, Sorted}
-use Rattle.multiway_sweep.specs.Front.{now, apply, run, Front, Next, By, NotBy}
+use Rattle.multiway_sweep.specs.Front.{value-from, apply, run, Front, Next, By, NotBy}
 use Rattle.rules.proofs.At.{at-in, at-before, at-after, at-late, le-or-lt}
 use Rattle.rules.proofs.Sweep.{Later, InTurn, put-cases, all-map, all-append, all-right, all-in, all-sort, sorted-right, sort-in, own-list, own-from, listed-list, listed-in-turn, events-sorted}
 
@@ -28,22 +28,22 @@ module _ {A : Type 0} where
     -- what the list j has once the events that happen before t have passed, if it had o
     abbrev pub track : List (Event A) → Option A → Option A
     track [] o = o
-    track (e ∷ es) o = track es (cond (mine e) (now e) o)
+    track (e ∷ es) o = track es (cond (mine e) (value-from e) o)
 
-    step-yes : (e : Event A) (o : Option A) → list e ≡ j → moment e < t → cond (mine e) (now e) o ≡ now e
+    step-yes : (e : Event A) (o : Option A) → list e ≡ j → moment e < t → cond (mine e) (value-from e) o ≡ value-from e
     step-yes e o q h = rw (eq-eqb (list e) j q, lt-ltb (moment e) t h)
 
-    step-no : (e : Event A) (o : Option A) → (list e ≡ j → t ≤ moment e) → cond (mine e) (now e) o ≡ o
+    step-no : (e : Event A) (o : Option A) → (list e ≡ j → t ≤ moment e) → cond (mine e) (value-from e) o ≡ o
     step-no e o h = go (eqb (list e) j) refl
       where
-        go : (b : Bool) → eqb (list e) j ≡ b → cond (b && ltb (moment e) t) (now e) o ≡ o
+        go : (b : Bool) → eqb (list e) j ≡ b → cond (b && ltb (moment e) t) (value-from e) o ≡ o
         go true q = rw (le-ltb (moment e) t (h (eqb-true _ _ q)))
         go false q = refl
 
-    swap : (e x : Event A) (o : Option A) → list e ≢ list x → cond (mine e) (now e) (cond (mine x) (now x) o) ≡ cond (mine x) (now x) (cond (mine e) (now e) o)
+    swap : (e x : Event A) (o : Option A) → list e ≢ list x → cond (mine e) (value-from e) (cond (mine x) (value-from x) o) ≡ cond (mine x) (value-from x) (cond (mine e) (value-from e) o)
     swap e x o ne = go (eqb (list e) j) (eqb (list x) j) refl refl
       where
-        go : (a b : Bool) → eqb (list e) j ≡ a → eqb (list x) j ≡ b → cond (a && ltb (moment e) t) (now e) (cond (b && ltb (moment x) t) (now x) o) ≡ cond (b && ltb (moment x) t) (now x) (cond (a && ltb (moment e) t) (now e) o)
+        go : (a b : Bool) → eqb (list e) j ≡ a → eqb (list x) j ≡ b → cond (a && ltb (moment e) t) (value-from e) (cond (b && ltb (moment x) t) (value-from x) o) ≡ cond (b && ltb (moment x) t) (value-from x) (cond (a && ltb (moment e) t) (value-from e) o)
         go true true p q = absurd (ne (eqb-true _ _ p ∙ sym (eqb-true _ _ q)))
         go true false p q = refl
         go false b p q = refl
@@ -54,17 +54,17 @@ module _ {A : Type 0} where
 
     track-append : (es fs : List (Event A)) (o : Option A) → track (es ++ fs) o ≡ track fs (track es o)
     track-append [] fs o = refl
-    track-append (e ∷ es) fs o = track-append es fs (cond (mine e) (now e) o)
+    track-append (e ∷ es) fs o = track-append es fs (cond (mine e) (value-from e) o)
 
     track-put : (e : Event A) (es : List (Event A)) (o : Option A) → All (Later e) es → track (put e es) o ≡ track (e ∷ es) o
     track-put e [] o a = refl
     track-put e (x ∷ xs) o a =
         put-cases e x xs (λ l. track l o ≡ track (e ∷ x ∷ xs) o) (λ b. refl)
-        (λ b. track-put e xs (cond (mine x) (now x) o) (a .1) ∙ ap (track xs) (swap e x o (λ q. omega (arith, a .0 q, b (a .0) .no-later))))
+        (λ b. track-put e xs (cond (mine x) (value-from x) o) (a .1) ∙ ap (track xs) (swap e x o (λ q. omega (arith, a .0 q, b (a .0) .no-later))))
 
     track-sort : (es : List (Event A)) (o : Option A) → InTurn es → track (sort es) o ≡ track es o
     track-sort [] o i = refl
-    track-sort (e ∷ es) o i = track-put e (sort es) o (all-sort (Later e) es (i .0)) ∙ track-sort es (cond (mine e) (now e) o) (i .1)
+    track-sort (e ∷ es) o i = track-put e (sort es) o (all-sort (Later e) es (i .0)) ∙ track-sort es (cond (mine e) (value-from e) o) (i .1)
 
     -- the events of other lists do not bear on it
     track-listed : (k i : ℕ) (ls : List (List (Piece A))) → i < length ls → j ≡ k + i → track (listed k ls) none ≡ track (own j (getD ls i [])) none
@@ -81,11 +81,11 @@ module _ {A : Type 0} where
 
     track-run : (es : List (Event A)) (act : List (Option A)) → j < length act → All (λ e. list e ≡ j → moment e < t) es → getD (run es act) j none ≡ track es (getD act j none)
     track-run [] act h a = refl
-    track-run (e ∷ es) act h a = track-run es (apply e act) (rw (length-set act (list e) (now e)) h) (a .1) ∙ ap (track es) (go (eqb (list e) j) refl)
+    track-run (e ∷ es) act h a = track-run es (apply e act) (rw (length-set act (list e) (value-from e)) h) (a .1) ∙ ap (track es) (go (eqb (list e) j) refl)
       where
-        go : (b : Bool) → eqb (list e) j ≡ b → getD (apply e act) j none ≡ cond (b && ltb (moment e) t) (now e) (getD act j none)
-        go true q = let s : list e ≡ j = eqb-true _ _ q in rw (lt-ltb (moment e) t (a .0 s), s, getD-set-same act j (now e) none h)
-        go false q = getD-set-other act (list e) j (now e) none (λ r. eqb-false _ _ q (sym r))
+        go : (b : Bool) → eqb (list e) j ≡ b → getD (apply e act) j none ≡ cond (b && ltb (moment e) t) (value-from e) (getD act j none)
+        go true q = let s : list e ≡ j = eqb-true _ _ q in rw (lt-ltb (moment e) t (a .0 s), s, getD-set-same act j (value-from e) none h)
+        go false q = getD-set-other act (list e) j (value-from e) none (λ r. eqb-false _ _ q (sym r))
 
   -- the events of a range: before t, both, the start alone, or neither have happened
   module _ (k t : ℕ) (x : Piece A) (xs : List (Piece A)) where
@@ -137,7 +137,7 @@ module _ {A : Type 0} where
 
   run-length : (es : List (Event A)) (act : List (Option A)) → length (run es act) ≡ length act
   run-length [] act = refl
-  run-length (e ∷ es) act = run-length es (apply e act) ∙ length-set act (list e) (now e)
+  run-length (e ∷ es) act = run-length es (apply e act) ∙ length-set act (list e) (value-from e)
 
   all-any : (P : Event A → Type 0) → ((e : Event A) → P e) → (es : List (Event A)) → All P es
   all-any P g [] = tt

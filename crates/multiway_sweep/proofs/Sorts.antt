@@ -9,7 +9,7 @@ use denote.Enum.Declared.{tagOf}
 use types.Run.{OneOf}
 use Rattle.rules.specs.Lists.{Width}
 use Rattle.rules.specs.Sweep as rules
-use Rattle.multiway_sweep.specs.Steps.{Columns, Arrays, sizes-after, NoStart, On, Took, Holds}
+use Rattle.multiway_sweep.specs.Steps.{Reading, Arrays, sizes-after, NoStart, On, Took, Holds}
 use Rattle.multiway_sweep.specs.declared.Sizes.{Sizes}
 use Rattle.multiway_sweep.specs.declared.Step.{Step}
 use Rattle.multiway_sweep.specs.declared.Step.the-variants.{Start, End, Done}
@@ -38,7 +38,7 @@ no-start (End key list z) n = tt
 no-start Done n = tt
 
 -- what holds of the event that a step took, and of what is left then
-pub on-step : {C P : Type 0} (w : Width P) (c : Columns P) (a : Arrays) (R : rules.Event ℤ → Type 0) (z : Sizes) (t : Step) {left : List (rules.Event ℤ)} → Holds w c a t left → On R ⊥ t → ((e : rules.Event ℤ) → Took w c a e (sizes-after t z) left → R e → C) → C
+pub on-step : {C P : Type 0} (w : Width P) (c : Reading P) (a : Arrays) (R : rules.Event ℤ → Type 0) (z : Sizes) (t : Step) {left : List (rules.Event ℤ)} → Holds w c a t left → On R ⊥ t → ((e : rules.Event ℤ) → Took w c a e (sizes-after t z) left → R e → C) → C
 on-step w c a R z (Start r list value y) h o k = k _ h o
 on-step w c a R z (End key list y) h o k = k _ h o
 on-step w c a R z Done h o k = absurd o

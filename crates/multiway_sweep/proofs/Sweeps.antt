@@ -6,14 +6,14 @@ use native.Mathlib.Omega.{arith}
 use lib.IntN.{ℤ}
 use Rattle.rules.specs.Lists.{Width}
 use Rattle.rules.specs.Sweep as rules
-use Rattle.multiway_sweep.specs.Steps.{Columns, Arrays, sizes-after, Sweeping, Holds, Stepped}
+use Rattle.multiway_sweep.specs.Steps.{Reading, Arrays, sizes-after, Sweeping, Holds, Stepped}
 use Rattle.multiway_sweep.specs.Sweeps.{arrays-of, Advanced}
 use Rattle.multiway_sweep.specs.declared.Step.{Step}
 use Rattle.multiway_sweep.specs.declared.Step.the-variants.{Start, End, Done}
 use Rattle.multiway_sweep.specs.declared.Sweep.{Sweep}
 use Rattle.multiway_sweep.proofs.Sorts.{Not}
 
-module _ {P : Type 0} (w : Width P) (c : Columns P) where
+module _ {P : Type 0} (w : Width P) (c : Reading P) where
   -- where something was taken, something was left
   some-left : (a : Arrays) (t : Step) {left : List (rules.Event ℤ)} → Not 2 t → Holds w c a t left → left ≡ [] → ⊥
   some-left a (Start r list value z) n h e = let q : _≡_ {A = ℕ} 0 1 = cc in absurd (omega arith)

@@ -11,9 +11,9 @@ use Rattle.rules.specs.Proving.Moments.{moment}
 
 module _ {A : Type 0} where
   -- what the list has from the event on
-  abbrev pub now : Event A → Option A
-  now (starts p i v) = some v
-  now (ends p i) = none
+  abbrev pub value-from : Event A → Option A
+  value-from (starts p i v) = some v
+  value-from (ends p i) = none
 
   -- the first point whose column the event bears on
   abbrev pub edge : Event A → ℕ
@@ -21,7 +21,7 @@ module _ {A : Type 0} where
 
   -- what the lists have once an event, or events, have passed
   abbrev pub apply : Event A → List (Option A) → List (Option A)
-  apply e act = set act (list e) (now e)
+  apply e act = set act (list e) (value-from e)
 
   abbrev pub run : List (Event A) → List (Option A) → List (Option A)
   run [] act = act

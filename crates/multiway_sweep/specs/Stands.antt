@@ -5,7 +5,7 @@ use mathlib.Core.Option.{Option, none, some}
 use mathlib.Core.List.{List, [], _∷_}
 use lib.ListN.{length, getD}
 use Rattle.heap.specs.Order.{one}
-use Rattle.heap.specs.Heap.{Held, Heap, many, rank}
+use Rattle.heap.specs.Heap.{Entries, Heap, many, rank}
 use Rattle.rules.specs.Piece.{Piece}
 use Rattle.rules.specs.Lists.{ranges}
 use Rattle.rules.specs.Sweep.{Event}
@@ -15,8 +15,8 @@ use Rattle.multiway_sweep.specs.Cursors.{Cursor, fresh, left, Sound}
 pub record View : Type 0 where
   pub next : ℕ → ℕ
   pub stops : ℕ → ℕ
-  pub starts : Held
-  pub active-ends : Held
+  pub starts : Entries
+  pub active-ends : Entries
 
 -- how often an entry with the key k stands for what a list has
 abbrev pub tally : Option ℕ → ℕ → ℕ
@@ -29,9 +29,9 @@ amount none = 0
 amount (some p) = 1
 
 -- a heap of m entries holds, for each list i that has one, the key f i
-pub record Holds (h : Held) (m : ℕ) (f : ℕ → Option ℕ) : Type 0 where
+pub record Holds (h : Entries) (m : ℕ) (f : ℕ → Option ℕ) : Type 0 where
   pub heap : Heap h m
-  pub held : (key list : ℕ) → list < 256 → many h m (rank key list) ≡ tally (f list) key
+  pub has : (key list : ℕ) → list < 256 → many h m (rank key list) ≡ tally (f list) key
 
 module _ {A : Type 0} where
   abbrev pub first-start : List (Piece A) → Option ℕ
@@ -53,8 +53,8 @@ module _ {A : Type 0} where
     pub sound : Sound n cursors
     pub lies : (i : ℕ) → i < length cursors → at cursors i .ranges ≡ ranges s e v (x .next i) (x .stops i - x .next i)
     pub inside : (i : ℕ) → i < length cursors → x .stops i ≤ long
-    pub starts-held : Holds (x .starts) starts (λ i. first-start (at cursors i .ranges))
-    pub ends-held : Holds (x .active-ends) ends (λ i. at cursors i .active)
+    pub holds-starts : Holds (x .starts) starts (λ i. first-start (at cursors i .ranges))
+    pub holds-ends : Holds (x .active-ends) ends (λ i. at cursors i .active)
     pub counted : ends ≡ actives cursors
     pub is-left : left cursors ≡ rest
 

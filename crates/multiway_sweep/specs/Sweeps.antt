@@ -4,14 +4,14 @@ use mathlib.Core.List.{List, []}
 use lib.IntN.{ℤ}
 use Rattle.rules.specs.Lists.{Width}
 use Rattle.rules.specs.Sweep as rules
-use Rattle.multiway_sweep.specs.Steps.{Columns, Arrays, arrays, sizes-after, Sweeping, Stepped}
+use Rattle.multiway_sweep.specs.Steps.{Reading, Arrays, sizes-after, Sweeping, Stepped}
 use Rattle.multiway_sweep.specs.declared.Sweep.{Sweep}
 use Rattle.multiway_sweep.specs.declared.Advance.{Advance}
 
 abbrev pub arrays-of : Sweep → Arrays
-arrays-of s = arrays (s .next) (s .stops) (s .«start_keys») (s .«start_lists») (s .«end_keys») (s .«end_lists»)
+arrays-of s = record { cursors = s .cursors; start-keys = s .«start_keys»; start-lists = s .«start_lists»; end-keys = s .«end_keys»; end-lists = s .«end_lists» }
 
-module _ {P : Type 0} (w : Width P) (c : Columns P) where
+module _ {P : Type 0} (w : Width P) (c : Reading P) where
   -- the sweep s is advanced: a step took what comes next, and where nothing is left the sweep after it has nothing left
   abbrev pub Advanced : Sweep → List (rules.Event ℤ) → Advance → Type 0
   Advanced s rest r = Stepped w c (arrays-of s) (arrays-of (r .sweep)) rest (r .taken) × (r .sweep .sizes ≡ sizes-after (r .taken) (s .sizes)) × (rest ≡ [] → Sweeping w c (arrays-of (r .sweep)) (r .sweep .sizes) rest)

@@ -1,3 +1,5 @@
+// What a sweep over lists answers and holds, and what its step asks that touches no column.
+
 ghost use mathlib.Core.Path.{_≡_};
 ghost use Prim.Native.Nat.{_<_};
 ghost use Rattle.multiway_sweep.specs.Steps.{EndFirst, sizes-after};
@@ -22,11 +24,10 @@ pub enum Step {
     Done,
 }
 
-// Where a sweep stands: of each list the place of its next range and the place past its last, a heap of the starts of the
-// next ranges, and a heap of the ends of the active ones.
+// Where a sweep stands: of the list k the place of its next range (the cursor at k) and the place past its last (at 16 + k), a
+// heap of the starts of the next ranges, and a heap of the ends of the active ones.
 pub struct Sweep {
-    pub next: [usize; 16],
-    pub stops: [usize; 16],
+    pub cursors: [usize; 32],
     pub start_keys: [u64; 16],
     pub start_lists: [u8; 16],
     pub end_keys: [u64; 16],
@@ -53,7 +54,7 @@ pub fn end_first(sizes: Sizes, start: u64, end: u64) -> bool
     end < start
 }
 
-// A list's index as the heaps hold it.
+// The place of a list, from its index as the heaps hold it, a byte.
 pub fn wide(list: u8) -> usize
     ensures { λ r. ⌜ (r ≡ list) × (r < 256) ⌝ }
 {

@@ -1,10 +1,18 @@
+// The sweep over the starts and ends of ranges: how it begins, its step over lent arrays, and the same by value.
+
+use heap::pop;
+use heap::push;
+use heap::replace_top;
 use integer::seat::Point;
-use multiway_step_seat::fill;
-use multiway_step_seat::step;
+use integer::seat::key_at;
 use multiway_sweep::Advance;
+use multiway_sweep::Range;
+use multiway_sweep::Sizes;
 use multiway_sweep::Step;
 use multiway_sweep::Sweep;
+use multiway_sweep::end_first;
 use multiway_sweep::sizes_after;
+use multiway_sweep::wide;
 ghost use Prim.Native.Nat.{_≤_};
 ghost use mathlib.Core.List.{List};
 ghost use mathlib.Core.Path.{_≡_};
@@ -12,17 +20,99 @@ ghost use lib.IntN.{ℤ};
 ghost use lib.ListN.{length};
 ghost use Rattle.rules.specs.Lists.{seats, total};
 ghost use Rattle.rules.specs.Sweep as rules;
-ghost use Rattle.multiway_sweep.specs.Steps.{columns, Sweeping};
+ghost use Rattle.multiway_sweep.specs.Steps.{reading, read, arrays, arrays-before, arrays-after, Sweeping, Stepped};
 ghost use Rattle.multiway_sweep.specs.Sweeps.{arrays-of, Advanced};
-ghost use Rattle.multiway_sweep.specs.Begins.{Begins};
+ghost use Rattle.multiway_sweep.specs.Begins.{Begins, Fillable, Filled};
+
+// Lays the cursors of the lists that the counts tell, and the heap of their first starts, and answers the sizes of the heaps.
+pub fn fill(
+    starts: &[Point],
+    counts: &[u32],
+    cursors: &mut [usize; 32],
+    start_keys: &mut [u64; 16],
+    start_lists: &mut [u8; 16],
+) -> Sizes
+    requires { ⌜ Fillable starts counts cursors «start_keys» «start_lists» ⌝ }
+    ensures { λ r. ⌜ Filled seats starts counts cursors «start_keys» «start_lists» r ⌝ }
+{
+    let mut size: usize = 0;
+    let mut from: usize = 0;
+    let mut k: usize = 0;
+    while k < counts.len() {
+        let stop = from + counts[k] as usize;
+        cursors[k] = from;
+        cursors[16 + k] = stop;
+        if from < stop {
+            push(start_keys, start_lists, size, key_at(starts, from), k as u8);
+            size += 1;
+        }
+        from = stop;
+        k += 1;
+    }
+    Sizes {
+        starts: size,
+        active_ends: 0,
+    }
+}
+
+// The next event of a sweep over lent arrays. A range that starts becomes active, and its list goes on to the range after it.
+pub fn step(
+    starts: &[Point],
+    ends: &[Point],
+    values: &[i32],
+    cursors: &mut [usize; 32],
+    start_keys: &mut [u64; 16],
+    start_lists: &mut [u8; 16],
+    end_keys: &mut [u64; 16],
+    end_lists: &mut [u8; 16],
+    sizes: Sizes,
+) -> Step
+    requires { let c = reading starts ends values in
+        let a = arrays cursors «start_keys» «start_lists» «end_keys» «end_lists» in
+        ⌜ ((rest : List (rules.Event ℤ)) × Sweeping seats c a sizes rest) ⌝ }
+    ensures { λ r.
+        let c = read starts ends values in
+        let a = arrays-before cursors «start_keys» «start_lists» «end_keys» «end_lists» in
+        let b = arrays-after cursors «start_keys» «start_lists» «end_keys» «end_lists» in
+        ⌜ ((rest : List (rules.Event ℤ)) → Sweeping seats c a sizes rest → Stepped seats c a b rest r) ⌝ }
+{
+    let mut left = sizes;
+    if end_first(sizes, start_keys[0], end_keys[0]) {
+        let key = end_keys[0];
+        let list = wide(end_lists[0]);
+        pop(end_keys, end_lists, sizes.active_ends);
+        left.active_ends -= 1;
+        return Step::End(key, list, left);
+    }
+    if sizes.starts == 0 {
+        return Step::Done;
+    }
+    let start = start_keys[0];
+    let tag = start_lists[0];
+    let list = wide(tag);
+    let place = cursors[list];
+    let after = place + 1;
+    let end = key_at(ends, place);
+    let value = values[place];
+    cursors[list] = after;
+    push(end_keys, end_lists, sizes.active_ends, end, tag);
+    left.active_ends += 1;
+    if after < cursors[16 + list] {
+        let key = key_at(starts, after);
+        replace_top(start_keys, start_lists, sizes.starts, key, tag);
+        return Step::Start(Range { start, end }, list, value, left);
+    }
+    pop(start_keys, start_lists, sizes.starts);
+    left.starts -= 1;
+    Step::Start(Range { start, end }, list, value, left)
+}
 
 // A sweep over the lists that the counts tell.
 pub fn new(starts: &[Point], counts: &[u32]) -> Sweep
     requires { ⌜ (length (now counts) ≤ 16) × (total (now counts) ≡ length (now starts)) ⌝ }
     ensures { λ r. ⌜ Begins seats (now (starts .entry)) (now (counts .entry)) (arrays-of r) (r .sizes) ⌝ }
 {
-    let mut stops: [usize; 16] = [0; 16];
-    let mut next: [usize; 16] = [0; 16];
+    let mut cursors: [usize; 32] = [0; 32];
     let mut start_keys: [u64; 16] = [0; 16];
     let mut start_lists: [u8; 16] = [0; 16];
     let end_keys: [u64; 16] = [0; 16];
@@ -30,14 +120,12 @@ pub fn new(starts: &[Point], counts: &[u32]) -> Sweep
     let sizes = fill(
         starts,
         counts,
-        &mut stops,
-        &mut next,
+        &mut cursors,
         &mut start_keys,
         &mut start_lists,
     );
     Sweep {
-        next,
-        stops,
+        cursors,
         start_keys,
         start_lists,
         end_keys,
@@ -48,13 +136,12 @@ pub fn new(starts: &[Point], counts: &[u32]) -> Sweep
 
 // The next event of a sweep, and the sweep after it.
 pub fn next(starts: &[Point], ends: &[Point], values: &[i32], sweep: Sweep) -> Advance
-    requires { ⌜ ((rest : List (rules.Event ℤ)) × Sweeping seats (columns (now starts) (now ends) (now values)) (arrays-of sweep) (sweep .sizes) rest) ⌝ }
+    requires { ⌜ ((rest : List (rules.Event ℤ)) × Sweeping seats (reading starts ends values) (arrays-of sweep) (sweep .sizes) rest) ⌝ }
     ensures { λ r.
-        let c = columns (now (starts .entry)) (now (ends .entry)) (now (values .entry)) in
+        let c = read starts ends values in
         ⌜ ((rest : List (rules.Event ℤ)) → Sweeping seats c (arrays-of sweep) (sweep .sizes) rest → Advanced seats c sweep rest r) ⌝ }
 {
-    let stops = sweep.stops;
-    let mut next = sweep.next;
+    let mut cursors = sweep.cursors;
     let mut start_keys = sweep.start_keys;
     let mut start_lists = sweep.start_lists;
     let mut end_keys = sweep.end_keys;
@@ -63,8 +150,7 @@ pub fn next(starts: &[Point], ends: &[Point], values: &[i32], sweep: Sweep) -> A
         starts,
         ends,
         values,
-        &stops,
-        &mut next,
+        &mut cursors,
         &mut start_keys,
         &mut start_lists,
         &mut end_keys,
@@ -78,8 +164,7 @@ pub fn next(starts: &[Point], ends: &[Point], values: &[i32], sweep: Sweep) -> A
     Advance {
         taken,
         sweep: Sweep {
-            next,
-            stops,
+            cursors,
             start_keys,
             start_lists,
             end_keys,

@@ -2,7 +2,7 @@
 //! is the best of many; the library's include its form check and all its passes: with room for the
 //! most pieces that there can be, and with room for just the pieces that there are, where a join
 //! counts them first. The crate's iterators are drained into the same columns. What is printed is
-//! what docs/PERFORMANCE.md has: the table, and the least and the greatest ratio of each kind.
+//! what docs/PERFORMANCE.md has: a summary, and the table.
 
 use std::hint::black_box;
 use std::time::{Duration, Instant};
@@ -30,10 +30,6 @@ struct Row {
 }
 
 fn main() {
-    println!(
-        "| operation | lists | ranges | strewn | crate | library | counted | library / crate | counted / crate |"
-    );
-    println!("|---|---|---|---|---|---|---|---|---|");
     let two_way = [Operation::TwoWayInner, Operation::TwoWayLeft, Operation::TwoWayFull];
     let two_way = rows(&two_way, &[2], MOST_RANGES);
     let listing = rows(&[Operation::Events], &[2, 4, 16], MOST_RANGES);
@@ -42,22 +38,14 @@ fn main() {
     for ranges in [MOST_RANGES / 8, MOST_RANGES / 4, MOST_RANGES / 2] {
         joins.extend(rows(&[Operation::Full(1)], &[4], ranges));
     }
-    println!();
-    say("Two-way joins", &two_way);
-    say("The event listing", &listing);
-    // Two events in so many nanoseconds, told by the microsecond.
-    let by_library = span(listing.iter().map(|row| 2000.0 / row.by_library));
-    let by_crate = span(listing.iter().map(|row| 2000.0 / row.by_crate));
-    println!("- Million events a second: {by_library} by the library, {by_crate} by the crate.");
-    say("Many-way joins", &joins);
-    let of = |lists, ranges| {
-        joins
-            .iter()
-            .filter(move |row| row.lists == lists && row.ranges == ranges)
-            .collect::<Vec<_>>()
-    };
-    grow("from 2 to 16 lists", &of(2, MOST_RANGES), &of(16, MOST_RANGES));
-    grow("from 256 to 2,048 ranges in 4 lists", &of(4, MOST_RANGES / 8), &of(4, MOST_RANGES));
+    println!("{}", summary(&two_way, &listing, &joins));
+    println!(
+        "| operation | lists | ranges | strewn | crate | library | counted | library / crate | counted / crate |"
+    );
+    println!("|---|---|---|---|---|---|---|---|---|");
+    for row in two_way.iter().chain(&listing).chain(&joins) {
+        println!("{}", line(row));
+    }
 }
 
 fn rows(operations: &[Operation], list_counts: &[u64], ranges: usize) -> Vec<Row> {
@@ -65,9 +53,7 @@ fn rows(operations: &[Operation], list_counts: &[u64], ranges: usize) -> Vec<Row
     for &operation in operations {
         for (strewn, gap, length) in STREWN {
             for &count in list_counts {
-                let row = measured(operation, strewn, &lists(count, ranges, gap, length));
-                println!("{}", line(&row));
-                rows.push(row);
+                rows.push(measured(operation, strewn, &lists(count, ranges, gap, length)));
             }
         }
     }
@@ -114,26 +100,45 @@ fn line(row: &Row) -> String {
     )
 }
 
-/// The least and the greatest ratio of a kind of operations.
-fn say(kind: &str, rows: &[Row]) {
-    let library = rows.iter().map(|row| row.by_library / row.by_crate);
-    print!("- {kind}: {} of the crate's time", span(library));
-    let mut counted = rows.iter().filter_map(|row| Some(row.counted? / row.by_crate)).peekable();
-    if counted.peek().is_some() {
-        print!(", with a counting pass {}", span(counted));
-    }
-    println!(".");
+/// The ratios of each kind of operation, what a counting pass costs, and what grows.
+fn summary(two_way: &[Row], listing: &[Row], joins: &[Row]) -> String {
+    let whole = |rows: &[Row]| span(rows.iter().map(|row| row.by_library / row.by_crate));
+    let counted =
+        |rows: &[Row]| span(rows.iter().filter_map(|row| Some(row.counted? / row.by_crate)));
+    let counting =
+        |rows: &[Row]| span(rows.iter().filter_map(|row| Some(row.counted? / row.by_library)));
+    // Two events in so many nanoseconds, told by the microsecond.
+    let events = |time: fn(&Row) -> f64| span(listing.iter().map(|row| 2000.0 / time(row)));
+    format!(
+        "- Two-way joins take {} of the crate's time, with a counting pass {}.\n\
+         - The event listing takes {} of the crate's time: {} million events a second, the crate {}.\n\
+         - Many-way joins take {} of the crate's time, with a counting pass {}.\n\
+         - With a counting pass two-way joins take {} times as long as without, many-way joins {} times.\n\
+         - From 2 to 16 lists the cost of a range in a many-way join grows {} times, from 256 to 2,048 ranges {} times.\n",
+        whole(two_way),
+        counted(two_way),
+        whole(listing),
+        events(|row| row.by_library),
+        events(|row| row.by_crate),
+        whole(joins),
+        counted(joins),
+        counting(two_way),
+        counting(joins),
+        growth(joins, (2, MOST_RANGES), (16, MOST_RANGES)),
+        growth(joins, (4, MOST_RANGES / 8), (4, MOST_RANGES)),
+    )
 }
 
-/// How the cost of the many-way joins for each range grows from some rows to their like.
-fn grow(how: &str, from: &[&Row], to: &[&Row]) {
+/// How the cost for each range grows from the joins of so many lists and ranges to their like.
+fn growth(joins: &[Row], from: (u64, usize), to: (u64, usize)) -> String {
+    let of = |size| joins.iter().filter(move |row| (row.lists, row.ranges) == size);
     let alike = |a: &Row, b: &Row| a.title == b.title && a.strewn == b.strewn;
     let factor =
-        |row: &&Row| Some(to.iter().find(|other| alike(other, row))?.by_library / row.by_library);
-    let factors = span(from.iter().filter_map(factor));
-    println!("- Many-way joins, {how}: the cost for each range grows {factors} times.");
+        |row: &Row| Some(of(to).find(|other| alike(other, row))?.by_library / row.by_library);
+    span(of(from).filter_map(factor))
 }
 
+/// The least and the greatest of some numbers.
 fn span(numbers: impl Iterator<Item = f64>) -> String {
     let wider = |(least, greatest): (f64, f64), x: f64| (least.min(x), greatest.max(x));
     let (least, greatest) = numbers.fold((f64::INFINITY, 0.0), wider);

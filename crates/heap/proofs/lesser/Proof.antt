@@ -3,7 +3,7 @@ use borrow.Author.Needs.{needs}
 use Prim.Native.Nat.{_+_, _*_}
 use mathlib.Core.Path.{refl}
 use native.Mathlib.Omega.{arith}
-use Rattle.heap.specs.Heap.{held}
+use Rattle.heap.specs.Heap.{entries-of}
 use Rattle.heap.proofs.Moves.{only-child, lesser-child, one-more}
 use Rattle.heap.proofs.lesser.Statement.{statement}
 use Rattle.heap.proofs.lesser.Tie as tie
@@ -15,7 +15,7 @@ lesser-spec =
     (λ c. search needs)
     (λ c. search needs)
     (λ c. search needs)
-    (λ c. let b = c .before in only-child (held (b .args .keys .now) (b .args .lists .now) .at) (b .args .len) (b .args .place) _ refl (b .pre .1) (c .if1 .taken))
+    (λ c. let b = c .before in only-child (entries-of (b .args .keys .now) (b .args .lists .now) .at) (b .args .len) (b .args .place) _ refl (b .pre .1) (c .if1 .taken))
     (λ c. search needs)
     (λ c. search needs)
     (λ c. search needs)
@@ -30,7 +30,7 @@ lesser-spec =
     let s = b .args in
     let left = 2 * s .place + 1 in
     lesser-child
-    (held (s .keys .now) (s .lists .now) .at)
+    (entries-of (s .keys .now) (s .lists .now) .at)
     (s .len)
     (s .place)
     (c .earlier .result)

@@ -3,13 +3,13 @@ use borrow.Author.Needs.{needs}
 use Prim.Native.Nat.{_-_, _<_, _≤_}
 use mathlib.Core.Path.{_≡_}
 use native.Mathlib.Omega.{arith}
-use Rattle.heap.specs.Heap.{held, Heap}
+use Rattle.heap.specs.Heap.{entries-of, Heap}
 use Rattle.heap.proofs.Laws.{heap-none}
 use Rattle.heap_test.proofs.fill.Statement.{statement}
 use Rattle.heap_test.proofs.fill.Tie as tie
 
 abbrev Inv-loop : tie.InvT-loop
-Inv-loop keys₀ lists₀ step list₀ len₀ keys lists list len = Heap (held keys lists) len × (len ≤ 16) × (list < 16)
+Inv-loop keys₀ lists₀ step list₀ len₀ keys lists list len = Heap (entries-of keys lists) len × (len ≤ 16) × (list < 16)
 
 abbrev μ-loop : tie.MeasureT-loop
 μ-loop keys₀ lists₀ step list₀ len₀ keys lists list len = 16 - len

@@ -2,12 +2,12 @@
 use borrow.Author.Needs.{needs}
 use Prim.Native.Nat.{_-_, _≤_}
 use native.Mathlib.Omega.{arith}
-use Rattle.heap.specs.Heap.{held, Heap}
+use Rattle.heap.specs.Heap.{entries-of, Heap}
 use Rattle.heap_test.proofs.turn.Statement.{statement}
 use Rattle.heap_test.proofs.turn.Tie as tie
 
 abbrev Inv-loop : tie.InvT-loop
-Inv-loop keys₀ lists₀ text₀ list₀ keys lists text list = Heap (held keys lists) 16 × (16 ≤ list) × (list ≤ 32)
+Inv-loop keys₀ lists₀ text₀ list₀ keys lists text list = Heap (entries-of keys lists) 16 × (16 ≤ list) × (list ≤ 32)
 
 abbrev μ-loop : tie.MeasureT-loop
 μ-loop keys₀ lists₀ text₀ list₀ keys lists text list = 32 - list
