@@ -2,3 +2,4 @@
 pub mod Turns
 pub mod Stretches
 pub mod First
+pub mod Begins

@@ -3,3 +3,6 @@ pub mod Rulings
 pub mod Pieces
 pub mod Columns
 pub mod Going
+pub mod Joins
+pub mod Outcomes
+pub mod Calls

@@ -8,7 +8,6 @@ use Rattle.many_way_rules.specs.Selections.{in-odd}
 use Rattle.slots.proofs.Kept.{Kept, kept-start, kept-there, kept-missing, kept-end}
 use Rattle.multiway_join.proofs.in_odd.Statement.{statement}
 use Rattle.multiway_join.proofs.in_odd.Tie as tie
-
 use mathlib.Core.Bool.{not}
 
 abbrev Inv-loop : tie.InvT-loop

@@ -1,0 +1,54 @@
+-- A join as a walk: pieces of whole pence, laid into columns of starts, ends and values from the first place on. Assumes nothing.
+use Prim.Native.Nat.{ℕ, _+_, _≤_, _<_}
+use mathlib.Core.Path.{_≡_}
+use mathlib.Core.Bool.{Bool}
+use mathlib.Core.Option.{none}
+use mathlib.Core.List.{List, [], _∷_}
+use native.Mathlib.Omega.{arith}
+use lib.IntN.{ℤ, pos}
+use lib.ListN.{length, getD}
+use Rattle.rules.specs.Piece.{Range, AllWellFormed}
+use Rattle.rules.specs.Lists.{Width, Lent, keys, lists}
+use Rattle.rules.specs.Refusals.{Formed}
+use Rattle.rules.specs.Same.{eqℤ}
+use Rattle.rules.specs.Merged.{Merged, lengths, lay}
+use Rattle.rules.specs.Proving.Below.{nones}
+use Rattle.rules.specs.declared.Kind.{Kind}
+use Rattle.rules.proofs.Columns.{lists-length, lists-size}
+use Rattle.rules.proofs.Faults.{formed-values}
+use Rattle.rules.proofs.Same.{decides-ℤ}
+use Rattle.many_way_rules.specs.Operations.{kind-of, rule-of, merged}
+use Rattle.many_way_rules.specs.declared.Operation.{Operation}
+use Rattle.many_way_rules.proofs.Room.{rule-nones, merged-enough}
+use Rattle.multiway_join.specs.Passes.{Joinable}
+use Rattle.multiway_join.proofs.Columns.{merged-takes}
+use Rattle.multiway_join.proofs.Going.{Walk, Walkable}
+
+-- lists that the form checker passed
+module _ {P : Type 0} {w : Width P} {k : Kind} {l : Lent P} (f : Formed w k l) where
+  pub lists-formed : AllWellFormed (w .points) (lists w l)
+  lists-formed = formed-values (keys w (l .starts)) (keys w (l .ends)) (λ i. i) (λ i. getD (l .values) i (pos 0)) (w .points) 0 (l .counts) (f .formed)
+
+  pub lists-few : length (lists w l) ≤ 16
+  lists-few = omega (arith, lists-length w l, f .lists-few)
+
+-- where there is a list, no operation admits a point at which none has anything
+pub nothing-there : (o : Operation) (ls : List (List Range)) → 0 < length ls → rule-of o (nones ls) ≡ none
+nothing-there o [] h = absurd (omega arith)
+nothing-there o (l ∷ ls) h = rule-nones o l ls
+
+module _ {P : Type 0} (w : Width P) (o : Operation) (l : Lent P) (write : Bool) (c : Merged P) where
+  abbrev pub join : Walk ℤ ℤ (Merged P)
+  join = record { same = eqℤ; rule = rule-of o; points = w .points; lists = lists w l; lengths = lengths; lay = lay w; write = write; from = 0; columns = c }
+
+  pub walkable : Joinable w o l write c → Walkable join
+  unfolding merged
+  walkable j =
+      record {
+        law = decides-ℤ;
+        takes = merged-takes w;
+        formed = lists-formed (j .formed);
+        nothing = nothing-there o (lists w l) (omega (arith, lists-length w l, j .lists-some));
+        roomy = λ t. omega (arith, j .roomy t);
+        few = omega (arith, merged-enough o (w .points) (lists w l) (lists-formed (j .formed)) (omega (arith, lists-size w l, j .formed .agree .adds-up, j .formed .ranges-few)));
+      }

@@ -1,0 +1,106 @@
+-- From the judgement of what is lent to the outcome of a many-way join. Assumes nothing.
+use Prim.Native.Nat.{ℕ, pred, _+_, _*_, _-_, _≤_, _<_}
+use mathlib.Core.Path.{_≡_, refl, sym, ap, _∙_}
+use mathlib.Core.Bool.{Bool, true, false}
+use mathlib.Core.Option.{none, some}
+use mathlib.Core.List.{List, [], _∷_}
+use native.Mathlib.Omega.{arith}
+use lib.Dec.{leb}
+use lib.IntN.{ℤ, pos}
+use lib.ListN.{length, getD}
+use borrow.Author.Tests.{le-leb, lt-leb, leb-true}
+use Rattle.rules.specs.Piece.{Range}
+use Rattle.rules.specs.Lists.{Width, Lent, keys, cut, lists}
+use Rattle.rules.specs.Answer.{judge, leaves}
+use Rattle.rules.specs.Refusals.{Formed}
+use Rattle.rules.specs.Same.{eqℤ}
+use Rattle.rules.specs.Merged.{Merged, lengths, room, lay}
+use Rattle.rules.specs.Proving.Long.{Long}
+use Rattle.rules.specs.declared.Answer.{Answer}
+use Rattle.rules.specs.declared.Answer.the-variants.{Done, NoRoom}
+use Rattle.rules.specs.declared.Judgement.{Judgement}
+use Rattle.rules.specs.declared.Judgement.the-variants.{Refused}
+use Rattle.rules.specs.declared.Kind.{Kind}
+use Rattle.rules.proofs.Columns.{lists-length, lists-size}
+use Rattle.rules.proofs.Passes.{Turn, settled-done, settled-not, turn-again}
+use Rattle.rules.proofs.Refusals.{formed-sound}
+use Rattle.rules.proofs.Room.{runs-room}
+use Rattle.rules.proofs.Same.{decides-ℤ}
+use Rattle.many_way_rules.specs.Operations.{kind-of, rule-of, merged}
+use Rattle.many_way_rules.specs.Outcomes.{merging}
+use Rattle.many_way_rules.specs.declared.Operation.{Operation}
+use Rattle.many_way_rules.proofs.Room.{merged-of-none}
+use Rattle.multiway_join.specs.Passes.{lay-if, PutPieces, Joinable, of-none}
+use Rattle.multiway_join.proofs.Columns.{if-nothing, if-keeps, merged-takes}
+use Rattle.multiway_join.proofs.Joins.{lists-formed, nothing-there}
+
+-- what is refused before a join runs
+pub refused : {P : Type 0} (w : Width P) (o : Operation) (l : Lent P) {k : Kind} {j : Judgement} → k ≡ kind-of o → j ≡ judge w k l → {a : Answer} (c : Merged P) → j ≡ Refused a → leaves a c ≡ merging w o l c
+unfolding merging
+refused w o l e found c h = rw (← e, ← found, h)
+
+-- before a pass of a join nothing is written yet: the columns at first, and now
+abbrev pub Turns : {P : Type 0} → Width P → Operation → Lent P → Merged P → Merged P → Bool → Type 0
+Turns w o l c d write = Turn (length (merged o (w .points) (lists w l))) (room c) c d write
+
+module _ {P : Type 0} (w : Width P) (o : Operation) (l : Lent P) (f : Formed w (kind-of o) l) where
+  abbrev pieces : List Range
+  pieces = merged o (w .points) (lists w l)
+
+  module _ (lists-some : 0 < length (l .counts)) where
+    -- as many as there can be
+    most-enough : length pieces ≤ 2 * length (l .starts) - 1
+    unfolding merged
+    most-enough = omega (arith, runs-room eqℤ (rule-of o) (w .points) (lists w l) decides-ℤ (lists-formed f) (nothing-there o (lists w l) (omega (arith, lists-length w l))), lists-size w l, f .agree .adds-up)
+
+    -- where there is sure to be room the first pass writes
+    pub turns-first : (c : Merged P) {most space : ℕ} → most ≡ 2 * length (l .starts) - 1 → space ≡ room c → Turns w o l c c (leb most space)
+    turns-first c {most} {space} e q = record { kept = refl; enough = λ h. omega (arith, most-enough, leb-true most space h) }
+
+    pub turns-joinable : {c d : Merged P} {write : Bool} → Turns w o l c d write → Joinable w o l write d
+    turns-joinable i = rw (i .kept) (record { formed = f; lists-some = lists-some; roomy = i .enough })
+
+  module _ {c d d' : Merged P} {write : Bool} {n : ℕ} (i : Turns w o l c d write) (p : PutPieces (lay w) write 0 pieces d d' n) where
+    abbrev lays : Bool → Merged P → Merged P
+    lays b x = lay-if (lay w) b 0 pieces x
+
+    count : n ≡ length pieces
+    count = omega (arith, p .count)
+
+    pub turns-long : Long (lengths d') (lengths c)
+    turns-long =
+        let q : d' ≡ lays write c = p .is ∙ ap (lays write) (i .kept) in
+        rw q (if-keeps (merged-takes w) 0 write pieces c (λ t. omega (arith, i .enough t)))
+
+    pub turns-done : write ≡ true → leaves (Done n) d' ≡ merging w o l c
+    unfolding merging
+    turns-done e = rw (formed-sound w (kind-of o) l f) (settled-done lays (λ c. refl) i count (p .is) e)
+
+    module _ (e : write ≡ false) {space : ℕ} (q : space ≡ room c) where
+      pub turns-not : space < n → leaves (NoRoom n) d' ≡ merging w o l c
+      unfolding merging
+      turns-not h = rw (formed-sound w (kind-of o) l f) (settled-not lays (λ c. refl) i count (p .is) e (omega arith))
+
+      pub turns-again : n ≤ space → Turns w o l c d' true
+      turns-again h = turn-again lays (λ c. refl) i count (p .is) e (omega arith)
+
+  -- there are no lists
+  pub joined-none : length (l .counts) ≡ 0 → (c : Merged P) {d : Merged P} {a : Answer} → leaves a d ≡ of-none w o c → leaves a d ≡ merging w o l c
+  unfolding merging
+  joined-none e c p = p ∙ rw (formed-sound w (kind-of o) l f, go (l .counts) e)
+    where
+      go : (ns : List ℕ) → length ns ≡ 0 → cut (keys w (l .starts)) (keys w (l .ends)) (λ i. getD (l .values) i (pos 0)) 0 ns ≡ []
+      go [] e = refl
+      go (n ∷ ns) e = absurd (omega arith)
+
+-- over zero lists an operation says of the whole line what it says of no lists
+module _ {P : Type 0} (w : Width P) (o : Operation) (some-point : 0 < w .points) (c : Merged P) where
+  pub none-nothing : none ≡ rule-of o [] → leaves (Done 0) c ≡ of-none w o c
+  none-nothing e = rw (merged-of-none o (w .points) some-point, ← e, le-leb 0 (room c) (omega arith), if-nothing (merged-takes w) 0 true c)
+
+  module _ {v : ℤ} (e : some v ≡ rule-of o []) where
+    pub none-lacks : room c ≡ 0 → leaves (NoRoom 1) c ≡ of-none w o c
+    none-lacks h = rw (merged-of-none o (w .points) some-point, ← e, lt-leb 1 (room c) (omega arith))
+
+    pub none-whole : 0 < room c → {greatest : ℕ} {d : Merged P} {r : ℕ} → PutPieces (lay w) true 0 (record { start = 0; end = greatest; value = v } ∷ []) c d r → greatest + 1 ≡ w .points → leaves (Done r) d ≡ of-none w o c
+    none-whole h {greatest} p g = let q : pred (w .points) ≡ greatest = omega arith in rw (merged-of-none o (w .points) some-point, ← e, q, le-leb 1 (room c) (omega arith), p .count, p .is)
