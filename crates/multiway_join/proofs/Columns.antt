@@ -82,15 +82,15 @@ module _ {P : Type 0} (w : Width P) where
         keeps = λ n xs c h. (laid-long start-of n xs (c .start) (omega arith), (laid-long end-of n xs (c .end) (omega arith), (laid-long value-of n xs (c .value) (omega arith), tt)));
       }
 
+pub placed : {points space : ℕ} {write : Bool} {n : ℕ} {p : Pending} {x : Piece} → p ≡ One x → Puttable points space write n (waiting p) → Puttable points space write n (piece-of x ∷ [])
+placed h q = rw h at q
+
 -- what `put` does, with nothing done, and with a piece that is written or is not
 module _ {P : Type 0} (w : Width P) {write : Bool} {n : ℕ} {p : Pending} (c : Merged P) where
   pub put-nothing : p ≡ Nothing → PutPieces (lay w) write n (waiting p) c c n
   put-nothing h = rw h (record { count = sym (add-zero n); is = sym (if-nothing (merged-takes w) n write c) })
 
   module _ {x : Piece} (h : p ≡ One x) where
-    pub placed : Puttable (w .points) (room c) write n (waiting p) → Puttable (w .points) (room c) write n (piece-of x ∷ [])
-    placed q = rw h at q
-
     pub put-not : write ≡ false → PutPieces (lay w) write n (waiting p) c c (n + 1)
     put-not e = rw (e, h) (record { count = refl; is = refl })
 

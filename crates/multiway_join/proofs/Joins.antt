@@ -1,8 +1,8 @@
 -- A join as a walk: pieces of whole pence, laid into columns of starts, ends and values from the first place on. Assumes nothing.
 use Prim.Native.Nat.{ℕ, _+_, _≤_, _<_}
-use mathlib.Core.Path.{_≡_}
+use mathlib.Core.Path.{_≡_, sym, ap, _∙_}
 use mathlib.Core.Bool.{Bool}
-use mathlib.Core.Option.{none}
+use mathlib.Core.Option.{none, some}
 use mathlib.Core.List.{List, [], _∷_}
 use native.Mathlib.Omega.{arith}
 use lib.IntN.{ℤ, pos}
@@ -20,9 +20,14 @@ use Rattle.rules.proofs.Same.{decides-ℤ}
 use Rattle.many_way_rules.specs.Operations.{kind-of, rule-of, merged}
 use Rattle.many_way_rules.specs.declared.Operation.{Operation}
 use Rattle.many_way_rules.proofs.Room.{rule-nones, merged-enough}
-use Rattle.multiway_join.specs.Passes.{Joinable}
+use Rattle.slots.specs.Slots.{Slots, active}
+use Rattle.slots.specs.Stretch.{Stretch}
+use Rattle.multiway_join.specs.Pieces.{ruling-of}
+use Rattle.multiway_join.specs.Passes.{PutPieces, Joinable}
+use Rattle.multiway_join.specs.declared.Ruling.{Ruling}
+use Rattle.multiway_join.specs.declared.Ruling.the-variants.{Nothing as NotAdmitted, Value}
 use Rattle.multiway_join.proofs.Columns.{merged-takes}
-use Rattle.multiway_join.proofs.Going.{Walk, Walkable}
+use Rattle.multiway_join.proofs.Going.{Walk, pieces, Walkable}
 
 -- lists that the form checker passed
 module _ {P : Type 0} {w : Width P} {k : Kind} {l : Lent P} (f : Formed w k l) where
@@ -37,13 +42,13 @@ pub nothing-there : (o : Operation) (ls : List (List Range)) → 0 < length ls �
 nothing-there o [] h = absurd (omega arith)
 nothing-there o (l ∷ ls) h = rule-nones o l ls
 
-module _ {P : Type 0} (w : Width P) (o : Operation) (l : Lent P) (write : Bool) (c : Merged P) where
-  abbrev pub join : Walk ℤ ℤ (Merged P)
-  join = record { same = eqℤ; rule = rule-of o; points = w .points; lists = lists w l; lengths = lengths; lay = lay w; write = write; from = 0; columns = c }
+abbrev pub join : {P : Type 0} → Width P → Operation → Lent P → Bool → Merged P → Walk ℤ ℤ (Merged P)
+join w o l write c = record { same = eqℤ; rule = rule-of o; points = w .points; lists = lists w l; lengths = lengths; lay = lay w; write = write; from = 0; columns = c }
 
-  pub walkable : Joinable w o l write c → Walkable join
+module _ {P : Type 0} {w : Width P} {o : Operation} {l : Lent P} {write : Bool} {c : Merged P} (j : Joinable w o l write c) where
+  pub walkable : Walkable (join w o l write c)
   unfolding merged
-  walkable j =
+  walkable =
       record {
         law = decides-ℤ;
         takes = merged-takes w;
@@ -52,3 +57,19 @@ module _ {P : Type 0} (w : Width P) (o : Operation) (l : Lent P) (write : Bool) 
         roomy = λ t. omega (arith, j .roomy t);
         few = omega (arith, merged-enough o (w .points) (lists w l) (lists-formed (j .formed)) (omega (arith, lists-size w l, j .formed .agree .adds-up, j .formed .ranges-few)));
       }
+
+  -- its pieces are the join's
+  pub joined : {d : Merged P} {r : ℕ} → PutPieces (lay w) write 0 (pieces (join w o l write c)) c d r → PutPieces (lay w) write 0 (merged o (w .points) (lists w l)) c d r
+  unfolding merged
+  joined p = p
+
+  -- what it says of a stretch, as a ruling
+  module _ (s : Slots) {k start end : ℕ} (t : Stretch (w .points) (lists w l) k (active (length (lists w l)) s) start end) (q : Ruling) (e : ruling-of q ≡ rule-of o (active (length (l .counts)) s)) where
+    says : rule-of o (active (length (lists w l)) s) ≡ ruling-of q
+    says = rw (lists-length w l) (sym e)
+
+    pub ruled-out : q ≡ NotAdmitted → rule-of o (active (length (lists w l)) s) ≡ none
+    ruled-out h = says ∙ ap ruling-of h
+
+    pub ruled-in : {v v' : ℤ} → q ≡ Value v → v' ≡ v → rule-of o (active (length (lists w l)) s) ≡ some v'
+    ruled-in h u = says ∙ ap ruling-of h ∙ ap some (sym u)

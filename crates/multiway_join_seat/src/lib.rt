@@ -1,38 +1,177 @@
+// The many-way joins over lent columns: one pass over the stretches of the lists, and the public operations.
+
 use form_seat::judge;
 use integer::seat::Point;
 use integer::seat::greatest_key;
-use multiway_join::Join;
+use integer::seat::put_key;
+use join_sweep::JoinSweep;
+use join_sweep::LastEnd;
+use join_sweep::Stretch;
+use join_sweep_seat::first_event;
+use join_sweep_seat::next_stretch;
+use many_way_rules::Admission;
+use many_way_rules::known;
 use multiway_join::Pending;
 use multiway_join::Piece;
+use multiway_join::Ruling;
 use multiway_join::most;
+use multiway_join::push_merged;
+use multiway_join::rule_on;
 use multiway_join::shortest;
-use multiway_pass_seat::pass;
-use multiway_pass_seat::put;
 use rules::Answer;
 use rules::Judgement;
 use rules::Kind;
-ghost use Prim.Native.Nat.{ℕ, _<_};
-ghost use mathlib.Core.Bool.{true};
-ghost use mathlib.Core.List.{[]};
+ghost use Prim.Native.Nat.{_<_};
 ghost use mathlib.Core.Path.{_≡_};
 ghost use lib.ListN.{length};
-ghost use Rattle.rules.specs.Lists.{seats, lists, lent};
-ghost use Rattle.rules.specs.Answer.{known, leaves};
-ghost use Rattle.rules.specs.Outcomes.{inner, full, merged-room, merging};
-ghost use Rattle.join_sweep.specs.Begins.{Formed};
-ghost use Rattle.multiway_join.specs.Pieces.{output, operation};
-ghost use Rattle.multiway_join.specs.Passes.{Joined};
+ghost use Rattle.rules.specs.Lists.{seats, lists, lent, given};
+ghost use Rattle.rules.specs.Answer.{leaves};
+ghost use Rattle.rules.specs.Refusals.{Formed};
+ghost use Rattle.rules.specs.Merged.{output, before, after, room, lay};
+ghost use Rattle.many_way_rules.specs.Operations.{inner, full, kind-of, merged};
+ghost use Rattle.many_way_rules.specs.Outcomes.{merging};
+ghost use Rattle.many_way_rules.specs.declared.Operation.the-variants.{Join};
+ghost use Rattle.multiway_join.specs.Pieces.{waiting};
+ghost use Rattle.multiway_join.specs.Passes.{Puttable, PutPieces, Joinable, of-none};
 
-// How many pieces the columns have room for.
-fn room_of(out_start: &[Point], out_end: &[Point], out_value: &[i64]) -> usize
-    ensures { λ r. ⌜ r ≡ merged-room seats (output (now («out_start» .entry)) (now («out_end» .entry)) (now («out_value» .entry))) ⌝ }
+// Writes a piece that is done, if there is one, at a place of the columns, where it is to be written; the place after it.
+fn put(
+    write: bool,
+    place: usize,
+    done: Pending,
+    out_start: &mut [Point],
+    out_end: &mut [Point],
+    out_value: &mut [i64],
+) -> usize
+    requires { ⌜ Puttable (seats .points) (room (output «out_start» «out_end» «out_value»)) write place (waiting done) ⌝ }
+    ensures { λ r.
+        let c = before «out_start» «out_end» «out_value» in
+        ⌜ PutPieces (lay seats) write place (waiting done) c (after «out_start» «out_end» «out_value») r ⌝ }
 {
-    shortest(out_start.len(), out_end.len(), out_value.len())
+    let Pending::One(piece) = done else {
+        return place;
+    };
+    if write {
+        let value = piece.value;
+        put_key(out_start, place, piece.start);
+        put_key(out_end, place, piece.end);
+        out_value[place] = value;
+        return place + 1;
+    }
+    place + 1
+}
+
+// One pass over all stretches: how many pieces there are. They are written where `write` says so.
+fn pass(
+    admission: Admission,
+    combiner: u8,
+    starts: &[Point],
+    ends: &[Point],
+    values: &[i32],
+    counts: &[u32],
+    write: bool,
+    out_start: &mut [Point],
+    out_end: &mut [Point],
+    out_value: &mut [i64],
+) -> usize
+    requires { ⌜ Joinable seats (Join admission combiner) (lent starts ends values counts) write (output «out_start» «out_end» «out_value») ⌝ }
+    ensures { λ r.
+        let xs = merged (Join admission combiner) (seats .points) (lists seats (given starts ends values counts)) in
+        let c = before «out_start» «out_end» «out_value» in
+        ⌜ PutPieces (lay seats) write 0 xs c (after «out_start» «out_end» «out_value») r ⌝ }
+{
+    let mut cursors: [usize; 32] = [0; 32];
+    let mut start_keys: [u64; 16] = [0; 16];
+    let mut start_lists: [u8; 16] = [0; 16];
+    let mut end_keys: [u64; 16] = [0; 16];
+    let mut end_lists: [u8; 16] = [0; 16];
+    let held = first_event(
+        starts,
+        ends,
+        values,
+        counts,
+        &mut cursors,
+        &mut start_keys,
+        &mut start_lists,
+        &mut end_keys,
+        &mut end_lists,
+    );
+    let mut current: [i32; 16] = [0; 16];
+    let mut present: [bool; 16] = [false; 16];
+    let mut sweep = JoinSweep {
+        held,
+        active_count: 0,
+    };
+    let mut last_end = LastEnd::Nothing;
+    let mut pending = Pending::Nothing;
+    let mut count: usize = 0;
+    loop {
+        let stretch = next_stretch(
+            starts,
+            ends,
+            values,
+            &mut cursors,
+            &mut start_keys,
+            &mut start_lists,
+            &mut end_keys,
+            &mut end_lists,
+            &mut current,
+            &mut present,
+            sweep,
+            last_end,
+        );
+        let Stretch::Next(range, at) = stretch else {
+            return put(write, count, pending, out_start, out_end, out_value);
+        };
+        sweep = at;
+        last_end = LastEnd::At(range.end);
+        let ruling = rule_on(admission, combiner, counts.len(), &current, &present);
+        if let Ruling::Value(value) = ruling {
+            let next = Piece {
+                start: range.start,
+                end: range.end,
+                value,
+            };
+            let pushed = push_merged(pending, next);
+            let done = pushed.done;
+            let piece = pushed.pending;
+            count = put(write, count, done, out_start, out_end, out_value);
+            pending = Pending::One(piece);
+        }
+    }
+}
+
+// Zero lists: what a join says of no lists it says of the whole line.
+fn of_none(
+    admission: Admission,
+    combiner: u8,
+    out_start: &mut [Point],
+    out_end: &mut [Point],
+    out_value: &mut [i64],
+) -> Answer
+    ensures { λ r. ⌜ leaves r (after «out_start» «out_end» «out_value»)
+        ≡ of-none seats (Join admission combiner) (before «out_start» «out_end» «out_value») ⌝ }
+{
+    let current: [i32; 16] = [0; 16];
+    let present: [bool; 16] = [false; 16];
+    let ruling = rule_on(admission, combiner, 0, &current, &present);
+    let Ruling::Value(value) = ruling else {
+        return Answer::Done(0);
+    };
+    if shortest(out_start.len(), out_end.len(), out_value.len()) == 0 {
+        return Answer::NoRoom(1);
+    }
+    let whole = Piece {
+        start: 0,
+        end: greatest_key(),
+        value,
+    };
+    Answer::Done(put(true, 0, Pending::One(whole), out_start, out_end, out_value))
 }
 
 // Writes all pieces where there is room for them. Where the room may not do, a counting pass tells how many there are.
 fn write_all(
-    join: Join,
+    admission: Admission,
     combiner: u8,
     starts: &[Point],
     ends: &[Point],
@@ -42,18 +181,15 @@ fn write_all(
     out_end: &mut [Point],
     out_value: &mut [i64],
 ) -> Answer
-    requires { ⌜ Formed seats (lent (now starts) (now ends) (now values) (now counts)) × (0 < length (now counts)) ⌝ }
-    ensures { λ r.
-        let l = lent (now (starts .entry)) (now (ends .entry)) (now (values .entry)) (now (counts .entry)) in
-        let c = output (now («out_start» .entry)) (now («out_end» .entry)) (now («out_value» .entry)) in
-        let d = output (now («out_start» .exit)) (now («out_end» .exit)) (now («out_value» .exit)) in
-        ⌜ Joined seats (operation join combiner) (lists seats l) c d r ⌝ }
+    requires { ⌜ Formed seats (kind-of (Join admission combiner)) (lent starts ends values counts) × (0 < length (now counts)) ⌝ }
+    ensures { λ r. ⌜ leaves r (after «out_start» «out_end» «out_value»)
+        ≡ merging seats (Join admission combiner) (given starts ends values counts) (before «out_start» «out_end» «out_value») ⌝ }
 {
-    let room = room_of(out_start, out_end, out_value);
-    let mut sure = most(starts.len()) <= room;
+    let space = shortest(out_start.len(), out_end.len(), out_value.len());
+    let mut sure = most(starts.len()) <= space;
     loop {
         let count = pass(
-            join,
+            admission,
             combiner,
             starts,
             ends,
@@ -67,42 +203,16 @@ fn write_all(
         if sure {
             return Answer::Done(count);
         }
-        if room < count {
+        if space < count {
             return Answer::NoRoom(count);
         }
         sure = true;
     }
 }
 
-// Zero lists: inner is the one range from the least to the greatest point, full is nothing.
-fn of_none(
-    join: Join,
-    out_start: &mut [Point],
-    out_end: &mut [Point],
-    out_value: &mut [i64],
-) -> Answer
-    ensures { λ r.
-        let c = output (now («out_start» .entry)) (now («out_end» .entry)) (now («out_value» .entry)) in
-        let d = output (now («out_start» .exit)) (now («out_end» .exit)) (now («out_value» .exit)) in
-        ⌜ ((combiner : ℕ) → known combiner ≡ true → Joined seats (operation join combiner) [] c d r) ⌝ }
-{
-    let Join::Inner = join else {
-        return Answer::Done(0);
-    };
-    if room_of(out_start, out_end, out_value) == 0 {
-        return Answer::NoRoom(1);
-    }
-    let whole = Piece {
-        start: 0,
-        end: greatest_key(),
-        value: 0,
-    };
-    Answer::Done(put(true, 0, Pending::Held(whole), out_start, out_end, out_value))
-}
-
 // A many-way join of the lists that are lent.
 fn join_lists(
-    join: Join,
+    admission: Admission,
     combiner: u8,
     starts: &[Point],
     ends: &[Point],
@@ -112,21 +222,18 @@ fn join_lists(
     out_end: &mut [Point],
     out_value: &mut [i64],
 ) -> Answer
-    ensures { λ r.
-        let l = lent (now (starts .entry)) (now (ends .entry)) (now (values .entry)) (now (counts .entry)) in
-        let c = output (now («out_start» .entry)) (now («out_end» .entry)) (now («out_value» .entry)) in
-        let d = output (now («out_start» .exit)) (now («out_end» .exit)) (now («out_value» .exit)) in
-        ⌜ leaves r d ≡ merging seats (operation join combiner) l c ⌝ }
+    ensures { λ r. ⌜ leaves r (after «out_start» «out_end» «out_value»)
+        ≡ merging seats (Join admission combiner) (given starts ends values counts) (before «out_start» «out_end» «out_value») ⌝ }
 {
-    let found = judge(Kind::Join(combiner), starts, ends, values, counts);
+    let found = judge(Kind::Join(known(combiner)), starts, ends, values, counts);
     if let Judgement::Refused(answer) = found {
         return answer;
     }
     if counts.len() == 0 {
-        return of_none(join, out_start, out_end, out_value);
+        return of_none(admission, combiner, out_start, out_end, out_value);
     }
     write_all(
-        join,
+        admission,
         combiner,
         starts,
         ends,
@@ -149,14 +256,11 @@ pub fn multiway_inner_join(
     out_end: &mut [Point],
     out_value: &mut [i64],
 ) -> Answer
-    ensures { λ r.
-        let l = lent (now (starts .entry)) (now (ends .entry)) (now (values .entry)) (now (counts .entry)) in
-        let c = output (now («out_start» .entry)) (now («out_end» .entry)) (now («out_value» .entry)) in
-        let d = output (now («out_start» .exit)) (now («out_end» .exit)) (now («out_value» .exit)) in
-        ⌜ leaves r d ≡ merging seats (inner combiner) l c ⌝ }
+    ensures { λ r. ⌜ leaves r (after «out_start» «out_end» «out_value»)
+        ≡ merging seats (inner combiner) (given starts ends values counts) (before «out_start» «out_end» «out_value») ⌝ }
 {
     join_lists(
-        Join::Inner,
+        Admission::Every,
         combiner,
         starts,
         ends,
@@ -179,14 +283,11 @@ pub fn multiway_full_join(
     out_end: &mut [Point],
     out_value: &mut [i64],
 ) -> Answer
-    ensures { λ r.
-        let l = lent (now (starts .entry)) (now (ends .entry)) (now (values .entry)) (now (counts .entry)) in
-        let c = output (now («out_start» .entry)) (now («out_end» .entry)) (now («out_value» .entry)) in
-        let d = output (now («out_start» .exit)) (now («out_end» .exit)) (now («out_value» .exit)) in
-        ⌜ leaves r d ≡ merging seats (full combiner) l c ⌝ }
+    ensures { λ r. ⌜ leaves r (after «out_start» «out_end» «out_value»)
+        ≡ merging seats (full combiner) (given starts ends values counts) (before «out_start» «out_end» «out_value») ⌝ }
 {
     join_lists(
-        Join::Full,
+        Admission::Any,
         combiner,
         starts,
         ends,

@@ -2,19 +2,23 @@
 use mathlib.Core.Bool.{cond}
 use native.Mathlib.Omega.{arith}
 use borrow.Author.Needs.{needs}
-use Rattle.rules.specs.Lists.{seats, lists, lent}
-use Rattle.multiway_join.specs.Pieces.{output, operation}
+use Rattle.rules.specs.Lists.{Lent, seats}
+use Rattle.rules.specs.Merged.{Merged}
+use Rattle.many_way_rules.specs.declared.Operation.the-variants.{Join}
 use Rattle.multiway_join.proofs.Outcomes.{Turns, turns-first, turns-joinable, turns-long, turns-again, turns-done, turns-not}
 use Rattle.multiway_join_seat.proofs.write_all.Statement.{statement}
 use Rattle.multiway_join_seat.proofs.write_all.Tie as tie
 
 abbrev Inv-loop : tie.InvT-loop
-Inv-loop join combiner starts ends values counts out-start₀ out-end₀ out-value₀ room sure₀ out-start out-end out-value sure =
-    Turns seats (operation join combiner) (lists seats (lent starts ends values counts)) (output out-start₀ out-end₀ out-value₀) (output out-start out-end out-value) sure
+Inv-loop admission combiner starts ends values counts out-start₀ out-end₀ out-value₀ space sure₀ out-start out-end out-value sure =
+    let l : Lent _ = record { starts = starts; ends = ends; values = values; counts = counts } in
+    let c : Merged _ = record { start = out-start₀; end = out-end₀; value = out-value₀ } in
+    Turns seats (Join admission combiner) l c (record { start = out-start; end = out-end; value = out-value }) sure
 
 abbrev μ-loop : tie.MeasureT-loop
-μ-loop join combiner starts ends values counts out-start₀ out-end₀ out-value₀ room sure₀ out-start out-end out-value sure = cond sure 0 1
+μ-loop admission combiner starts ends values counts out-start₀ out-end₀ out-value₀ space sure₀ out-start out-end out-value sure = cond sure 0 1
 
+-- the places that the answers cite: the entry, the room, and a pass
 abbrev Start : Type 0
 Start = tie.Start Inv-loop μ-loop
 
@@ -22,7 +26,7 @@ abbrev Loop : Type 0
 Loop = tie.At-loop Inv-loop μ-loop
 
 abbrev Room : Type 0
-Room = tie.After-room-of Inv-loop μ-loop
+Room = tie.After-shortest Inv-loop μ-loop
 
 abbrev Pass : Type 0
 Pass = tie.After-pass Inv-loop μ-loop
@@ -35,15 +39,19 @@ write-all-spec =
     μ-loop
     (λ c κs. search needs)
     (λ c κs. let a : Start = search in a .pre .0 .ranges-few)
-    (λ c. let m : tie.After-most Inv-loop μ-loop = search in let r : Room = search in let a : Start = search in turns-first (a .pre .0) (a .pre .1) (a .args .join) (a .args .combiner) (output (a .args .out-start .now) (a .args .out-end .now) (a .args .out-value .now)) (m .most .ensures) (r .room-of .ensures))
-    (λ c κs. let l : Loop = search in let a : Start = search in (a .pre .0, turns-joinable (a .pre .0) (a .pre .1) (a .args .join) (a .args .combiner) (l .loop .inv)))
-    (λ c. let l : Loop = search in let p : Pass = search in turns-long (l .loop .inv) (p .pass .ensures) .start)
-    (λ c. let l : Loop = search in let p : Pass = search in turns-long (l .loop .inv) (p .pass .ensures) .end)
-    (λ c. let l : Loop = search in let p : Pass = search in turns-long (l .loop .inv) (p .pass .ensures) .value)
-    (λ c. let l : Loop = search in let p : Pass = search in turns-done (l .loop .inv) (p .pass .ensures) (c .if1 .taken))
-    (λ c. let l : Loop = search in let p : Pass = search in turns-long (l .loop .inv) (p .pass .ensures) .start)
-    (λ c. let l : Loop = search in let p : Pass = search in turns-long (l .loop .inv) (p .pass .ensures) .end)
-    (λ c. let l : Loop = search in let p : Pass = search in turns-long (l .loop .inv) (p .pass .ensures) .value)
-    (λ c. let l : Loop = search in let p : Pass = search in let r : Room = search in turns-not (l .loop .inv) (p .pass .ensures) (c .before .if1 .left) (r .room-of .ensures) (c .if2 .taken))
+    -- where there is sure to be room the first pass writes
+    (λ c. let m : tie.After-most Inv-loop μ-loop = search in let r : Room = search in let a : Start = search in turns-first seats _ _ (a .pre .0) (a .pre .1) _ (m .most .ensures) (r .shortest .ensures))
+    (λ c κs. let l : Loop = search in let a : Start = search in turns-joinable seats _ _ (a .pre .0) (a .pre .1) (l .loop .inv))
+    -- a pass wrote
+    (λ c. let l : Loop = search in let p : Pass = search in let a : Start = search in turns-long seats _ _ (a .pre .0) (l .loop .inv) (p .pass .ensures) .0)
+    (λ c. let l : Loop = search in let p : Pass = search in let a : Start = search in turns-long seats _ _ (a .pre .0) (l .loop .inv) (p .pass .ensures) .1 .0)
+    (λ c. let l : Loop = search in let p : Pass = search in let a : Start = search in turns-long seats _ _ (a .pre .0) (l .loop .inv) (p .pass .ensures) .1 .1 .0)
+    (λ c. let l : Loop = search in let p : Pass = search in let a : Start = search in turns-done seats _ _ (a .pre .0) (l .loop .inv) (p .pass .ensures) (c .if1 .taken))
+    -- it counted more than there is room for
+    (λ c. let l : Loop = search in let p : Pass = search in let a : Start = search in turns-long seats _ _ (a .pre .0) (l .loop .inv) (p .pass .ensures) .0)
+    (λ c. let l : Loop = search in let p : Pass = search in let a : Start = search in turns-long seats _ _ (a .pre .0) (l .loop .inv) (p .pass .ensures) .1 .0)
+    (λ c. let l : Loop = search in let p : Pass = search in let a : Start = search in turns-long seats _ _ (a .pre .0) (l .loop .inv) (p .pass .ensures) .1 .1 .0)
+    (λ c. let l : Loop = search in let p : Pass = search in let r : Room = search in let a : Start = search in turns-not seats _ _ (a .pre .0) (l .loop .inv) (p .pass .ensures) (c .before .if1 .left) (r .shortest .ensures) (c .if2 .taken))
+    -- the next writes
     (λ c. let e = c .before .if1 .left in rw e (omega arith))
-    (λ c. let l : Loop = search in let p : Pass = search in let r : Room = search in turns-again (l .loop .inv) (p .pass .ensures) (c .before .if1 .left) (r .room-of .ensures) (c .if2 .left)))
+    (λ c. let l : Loop = search in let p : Pass = search in let r : Room = search in let a : Start = search in turns-again seats _ _ (a .pre .0) (l .loop .inv) (p .pass .ensures) (c .before .if1 .left) (r .shortest .ensures) (c .if2 .left)))
