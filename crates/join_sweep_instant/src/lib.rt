@@ -75,8 +75,7 @@ pub fn next_stretch(
     sweep: JoinSweep,
     last_end: LastEnd,
 ) -> Stretch
-    requires joining {
-        let a = arrays cursors «start_keys» «start_lists» «end_keys» «end_lists» in
+    requires joining { let a = arrays cursors «start_keys» «start_lists» «end_keys» «end_lists» in
         ⌜ ((ls : List (List rules.Range)) × Joining instants (reading starts ends values) ls a (slots current present) sweep (moment-of «last_end»)) ⌝ }
     requires within { ⌜ after «last_end» ≤ instants .points ⌝ }
     ensures { λ r.
