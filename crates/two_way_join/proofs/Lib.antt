@@ -1,6 +1,3 @@
--- The laws of the two-way joins: pieces laid into columns one after the other, outcomes, two calls.
-pub mod Put
-pub mod Lists
-pub mod Laying
+-- The laws of the two-way joins: from the judgement and the passes to the outcome, and two calls.
 pub mod Turns
 pub mod Calls

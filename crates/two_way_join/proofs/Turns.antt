@@ -21,10 +21,10 @@ use Rattle.rules.specs.declared.Judgement.{Judgement}
 use Rattle.rules.specs.declared.Judgement.the-variants.{Sound, Refused}
 use Rattle.rules.specs.declared.Kind.the-variants.{TwoWay}
 use Rattle.rules.proofs.Passes.{Turn, settled-done, settled-not, turn-again}
-use Rattle.two_way_join.specs.Pairs.{pairs}
-use Rattle.two_way_join.specs.Columns.{lays, Roomy, Passed}
-use Rattle.two_way_join.proofs.Laying.{lays-long}
-use Rattle.two_way_join.proofs.Lists.{pairs-upto}
+use Rattle.two_way_pass.specs.Pairs.{pairs}
+use Rattle.two_way_pass.specs.Columns.{lays, Roomy, Passed}
+use Rattle.two_way_pass.proofs.Laying.{lays-long}
+use Rattle.two_way_pass.proofs.Lists.{pairs-upto}
 
 -- before a pass the lists are sound and nothing is written yet: the room, the columns at first, and now
 pub record Turns {P : Type 0} (w : Width P) (o : Pairing) (l : Lent P) (space : ℕ) (c d : Paired P) (write : Bool) : Type 0 where

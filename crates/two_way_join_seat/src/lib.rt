@@ -1,6 +1,5 @@
 // The two-way joins over lent columns: inner, left and full.
 
-use crate::pass::pass;
 use form_seat::judge;
 use integer::seat::Point;
 use rules::Answer;
@@ -9,14 +8,13 @@ use rules::Kind;
 use rules::Pairing;
 use two_way_join::enough;
 use two_way_join::shortest;
+use two_way_pass_seat::pass;
 ghost use mathlib.Core.Path.{_≡_};
 ghost use Rattle.rules.specs.Lists.{seats, given};
 ghost use Rattle.rules.specs.Answer.{leaves};
 ghost use Rattle.rules.specs.Paired.{before, after};
 ghost use Rattle.rules.specs.Outcomes.{pairing};
 ghost use Rattle.rules.specs.declared.Pairing.the-variants.{Inner, Left, Full};
-
-mod pass;
 
 // The join that is asked for: what is refused, or all pieces, where there is room for them. Where the room may not do, a counting
 // pass tells how many there are.

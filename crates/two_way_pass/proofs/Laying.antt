@@ -22,9 +22,9 @@ use Rattle.two_way.specs.declared.Cursor.{Cursor}
 use Rattle.two_way.specs.declared.Pair.{Pair}
 use Rattle.two_way.specs.declared.NextPair.{NextPair}
 use Rattle.two_way.specs.declared.NextPair.the-variants.{Next, Done}
-use Rattle.two_way_join.specs.Pairs.{value, first, pairs, both}
-use Rattle.two_way_join.specs.Columns.{Writable, put-row, PutPair, lays, Roomy, Passed}
-use Rattle.two_way_join.proofs.Lists.{begun-ready, pairs-upto}
+use Rattle.two_way_pass.specs.Pairs.{value, first, pairs, both}
+use Rattle.two_way_pass.specs.Columns.{Writable, put-row, PutPair, lays, Roomy, Passed}
+use Rattle.two_way_pass.proofs.Lists.{begun-ready, pairs-upto}
 
 -- what each column takes of a piece
 abbrev starts-of : {P : Type 0} → Width P → Piece Match → P

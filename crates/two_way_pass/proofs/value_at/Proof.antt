@@ -1,8 +1,8 @@
--- `two_way_join::value_at` meets its contract. Assumes nothing.
+-- `two_way_pass::value_at` meets its contract. Assumes nothing.
 use native.Mathlib.Omega.{arith}
-use Rattle.two_way_join.proofs.Put.{value-missing, value-there}
-use Rattle.two_way_join.proofs.value_at.Statement.{statement}
-use Rattle.two_way_join.proofs.value_at.Tie as tie
+use Rattle.two_way_pass.proofs.Put.{value-missing, value-there}
+use Rattle.two_way_pass.proofs.value_at.Statement.{statement}
+use Rattle.two_way_pass.proofs.value_at.Tie as tie
 
 pub value-at-spec : {M : Type 1} → statement M
 value-at-spec =

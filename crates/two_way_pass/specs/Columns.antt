@@ -12,7 +12,7 @@ use Rattle.rules.specs.Paired.{Paired, room, lay}
 use Rattle.rules.specs.declared.Pairing.{Pairing}
 use Rattle.two_way.specs.Sides.{no-left, no-right, piece-of}
 use Rattle.two_way.specs.declared.Pair.{Pair}
-use Rattle.two_way_join.specs.Pairs.{value, pairs}
+use Rattle.two_way_pass.specs.Pairs.{value, pairs}
 
 module _ {P : Type 0} (w : Width P) (v : List ℤ) where
   -- there is a place for a piece, its points are points, and its places are those of values

@@ -1,4 +1,4 @@
--- `two_way_join_seat::pass::pass` meets its contract: the pieces laid and those that are left are all pieces. Assumes nothing.
+-- `two_way_pass_seat::pass` meets its contract: the pieces laid and those that are left are all pieces. Assumes nothing.
 use Prim.Native.Nat.{_-_}
 use mathlib.Core.Path.{sym}
 use native.Mathlib.Omega.{arith}
@@ -6,11 +6,11 @@ use native.Mathlib.Nat.{zero-add}
 use lib.ListN.{length}
 use Rattle.rules.specs.Lists.{seats, Lent}
 use Rattle.rules.specs.Paired.{Paired}
-use Rattle.two_way_join.specs.Pairs.{pairs}
-use Rattle.two_way_join.proofs.Lists.{two-lists, splits}
-use Rattle.two_way_join.proofs.Laying.{Going, going-first, going-long, going-lt, going-few, going-writable, going-more, going-last}
-use Rattle.two_way_join_seat.proofs.pass.pass.Statement.{statement}
-use Rattle.two_way_join_seat.proofs.pass.pass.Tie as tie
+use Rattle.two_way_pass.specs.Pairs.{pairs}
+use Rattle.two_way_pass.proofs.Lists.{two-lists, splits}
+use Rattle.two_way_pass.proofs.Laying.{Going, going-first, going-long, going-lt, going-few, going-writable, going-more, going-last}
+use Rattle.two_way_pass_seat.proofs.pass.Statement.{statement}
+use Rattle.two_way_pass_seat.proofs.pass.Tie as tie
 
 abbrev Inv-loop : tie.InvT-loop
 Inv-loop asked starts ends values counts write out-start₀ out-end₀ out-left₀ out-right₀ out-presence₀ middle cursor₀ count₀ out-start out-end out-left out-right out-presence cursor count =

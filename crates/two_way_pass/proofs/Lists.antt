@@ -17,7 +17,7 @@ use Rattle.two_way.specs.Sides.{onward, Two, start-at, end-at, stop, remains}
 use Rattle.two_way.specs.Steps.{Begun, Ready}
 use Rattle.two_way.specs.declared.Cursor.{Cursor}
 use Rattle.two_way.proofs.Sides.{side-fresh}
-use Rattle.two_way_join.specs.Pairs.{first, pairs, both}
+use Rattle.two_way_pass.specs.Pairs.{first, pairs, both}
 
 module _ {P : Type 0} {w : Width P} {l : Lent P} (f : Formed w TwoWay l) where
   pub two-lists : length (l .counts) ≡ 2

@@ -7,8 +7,8 @@ use two_way::LEFT;
 use two_way::NextPair;
 use two_way::Pair;
 use two_way::RIGHT;
-use two_way_join::first_count;
-use two_way_join::value_at;
+use two_way_pass::first_count;
+use two_way_pass::value_at;
 use two_way_seat::next_piece;
 use two_way_seat::side::begin;
 ghost use mathlib.Core.Path.{_≡_};
@@ -17,7 +17,7 @@ ghost use Rattle.rules.specs.Lists.{seats, lent, given};
 ghost use Rattle.rules.specs.Paired.{output, before, after};
 ghost use Rattle.rules.specs.Refusals.{Formed};
 ghost use Rattle.rules.specs.declared.Kind.the-variants.{TwoWay};
-ghost use Rattle.two_way_join.specs.Columns.{Writable, PutPair, Roomy, Passed};
+ghost use Rattle.two_way_pass.specs.Columns.{Writable, PutPair, Roomy, Passed};
 
 // Writes a piece at a place of the columns, where it is to be written; values are read here alone.
 fn put(

@@ -1,12 +1,12 @@
--- `two_way_join_seat::pass::put` meets its contract. Assumes nothing.
+-- `two_way_pass_seat::put` meets its contract. Assumes nothing.
 use mathlib.Core.Path.{_∙_}
 use native.Mathlib.Omega.{arith}
 use borrow.Author.Needs.{needs}
 use mir.Syntax.{w32}
 use Rattle.integer.proofs.Laws.{back}
-use Rattle.two_way_join.proofs.Put.{put-done, put-not}
-use Rattle.two_way_join_seat.proofs.pass.put.Statement.{statement}
-use Rattle.two_way_join_seat.proofs.pass.put.Tie as tie
+use Rattle.two_way_pass.proofs.Put.{put-done, put-not}
+use Rattle.two_way_pass_seat.proofs.put.Statement.{statement}
+use Rattle.two_way_pass_seat.proofs.put.Tie as tie
 
 pub put-spec : {M : Type 1} → statement M
 put-spec =

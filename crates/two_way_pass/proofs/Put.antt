@@ -15,8 +15,8 @@ use Rattle.rules.specs.TwoWay.{side-value, presence}
 use Rattle.rules.specs.Paired.{Paired}
 use Rattle.two_way.specs.Sides.{unless, no-left, no-right}
 use Rattle.two_way.specs.declared.Pair.{Pair}
-use Rattle.two_way_join.specs.Pairs.{value}
-use Rattle.two_way_join.specs.Columns.{Writable, PutPair}
+use Rattle.two_way_pass.specs.Pairs.{value}
+use Rattle.two_way_pass.specs.Columns.{Writable, PutPair}
 
 module _ (v : List ℤ) (missing : Bool) (i : ℕ) where
   pub value-missing : missing ≡ true → pos 0 ≡ side-value (value v) (unless missing i)
