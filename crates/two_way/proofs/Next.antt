@@ -8,17 +8,19 @@ use mathlib.Core.List.{List}
 use native.Mathlib.Omega.{arith}
 use Rattle.integer.specs.KeyAt.{KeyAt}
 use Rattle.rules.specs.Piece.{Piece, at, Within}
-use Rattle.rules.specs.TwoWay.{Pairing, inner, left, full, keeps}
+use Rattle.rules.specs.TwoWay.{keeps}
+use Rattle.rules.specs.declared.Pairing.{Pairing}
+use Rattle.rules.specs.declared.Pairing.the-variants.{Inner, Left, Full}
 use Rattle.rules.proofs.At.{at-early, le-or-lt}
+use Rattle.rules.proofs.Same.{none≢some}
 use Rattle.rules.proofs.TwoWay.{within-low}
 use Rattle.two_way.specs.Sides.{side, onward, Two, start-at, end-at, stop, left-of, right-of, remains}
-use Rattle.two_way.specs.Steps.{Fresh, high, Ready, Covers, Stepped}
+use Rattle.two_way.specs.Steps.{Fresh, Ready, Covers, Stepped}
 use Rattle.two_way.specs.declared.Side.{Side}
 use Rattle.two_way.specs.declared.Cursor.{Cursor}
-use Rattle.two_way.specs.declared.Step.{Step}
-use Rattle.two_way.specs.declared.Step.the-variants.{Piece as Next, Done}
-use Rattle.two_way.proofs.Line.{keeps-nothing}
-use Rattle.two_way.proofs.Peel.{none-some, said, pair-none, pair-same}
+use Rattle.two_way.specs.declared.NextPair.{NextPair}
+use Rattle.two_way.specs.declared.NextPair.the-variants.{Next, Done}
+use Rattle.two_way.proofs.Peel.{said, said-nothing, pair-none, pair-same}
 use Rattle.two_way.proofs.Sides.{side-done, side-fresh, side-order, side-upto, side-from, side-early, side-in, side-after, side-ends, onward-within}
 use Rattle.two_way.proofs.Emit.{Emits}
 
@@ -28,7 +30,7 @@ module _ {P : Type 0} (t : Two P) where
   list a x = side (start-at t) (end-at t) a x
 
   abbrev Ascends : ℕ → Side → Type 0
-  Ascends a x = Within 0 (high t) (list a x)
+  Ascends a x = Within 0 (t .width .points) (list a x)
 
   -- x alone has the points from its start to q, and no longer past q
   record Prefix (a b : ℕ) (x y : Side) (q : ℕ) : Type 0 where
@@ -40,31 +42,31 @@ module _ {P : Type 0} (t : Two P) where
 
   module _ (a b : ℕ) (x y : Side) (u : Ascends a x) (h : x .at < a) where
     ordered : x .start ≤ end-at t (x .at)
-    ordered = side-order (start-at t) (end-at t) a (high t) x u h
+    ordered = side-order (start-at t) (end-at t) a (t .width .points) x u h
 
     before : (z : ℕ) → z < x .start → at (list a x) z ≡ none
-    before = side-early (start-at t) (end-at t) a (high t) x u h
+    before = side-early (start-at t) (end-at t) a (t .width .points) x u h
 
     ends : (q : ℕ) → q ≡ end-at t (x .at) → at (list a x) (q + 1) ≡ some (x .at) → ⊥
-    ends q e g = side-ends (start-at t) (end-at t) a (high t) x u h (rw e at g)
+    ends q e g = side-ends (start-at t) (end-at t) a (t .width .points) x u h (rw e at g)
 
-    prefix-made : (q : ℕ) → x .start ≤ q → q ≤ end-at t (x .at) → Within (q + 1) (high t) (list b y) → (at (list a x) (q + 1) ≡ some (x .at) → at (list b y) (q + 1) ≡ none → ⊥) → Prefix a b x y q
-    prefix-made q o l w e = record { order = o; covers = (h, omega arith, l); misses = w; edge = e; early = λ z m. (before z m, at-early (q + 1) (high t) (list b y) w z (omega arith)) }
+    prefix-made : (q : ℕ) → x .start ≤ q → q ≤ end-at t (x .at) → Within (q + 1) (t .width .points) (list b y) → (at (list a x) (q + 1) ≡ some (x .at) → at (list b y) (q + 1) ≡ none → ⊥) → Prefix a b x y q
+    prefix-made q o l w e = record { order = o; covers = (h, omega arith, l); misses = w; edge = e; early = λ z m. (before z m, at-early (q + 1) (t .width .points) (list b y) w z (omega arith)) }
 
     -- the other is done
     alone : b ≤ y .at → Prefix a b x y (end-at t (x .at))
-    alone d = prefix-made (end-at t (x .at)) ordered (omega arith) (rw (side-done (start-at t) (end-at t) b y d) (side-upto (start-at t) (end-at t) a (high t) x u h)) (λ g n. ends _ refl g)
+    alone d = prefix-made (end-at t (x .at)) ordered (omega arith) (rw (side-done (start-at t) (end-at t) b y d) (side-upto (start-at t) (end-at t) a (t .width .points) x u h)) (λ g n. ends _ refl g)
 
     -- the other starts later
     prefix : Ascends b y → y .at < b → x .start < y .start → (q : ℕ) → q ≡ min (end-at t (x .at)) (y .start - 1) → Prefix a b x y q
-    prefix w m l q e = prefix-made q (omega (arith, ordered)) (omega arith) (within-low (q + 1) (y .start) (high t) (list b y) (omega arith) from) (edge (le-or-lt (end-at t (x .at)) (y .start - 1)))
+    prefix w m l q e = prefix-made q (omega (arith, ordered)) (omega arith) (within-low (q + 1) (y .start) (t .width .points) (list b y) (omega arith) from) (edge (le-or-lt (end-at t (x .at)) (y .start - 1)))
       where
-        from : Within (y .start) (high t) (list b y)
-        from = side-from (start-at t) (end-at t) b (high t) y w m
+        from : Within (y .start) (t .width .points) (list b y)
+        from = side-from (start-at t) (end-at t) b (t .width .points) y w m
 
         edge : (end-at t (x .at) ≤ y .start - 1) ⊎ (y .start - 1 < end-at t (x .at)) → at (list a x) (q + 1) ≡ some (x .at) → at (list b y) (q + 1) ≡ none → ⊥
         edge (inl k) g n = ends q (omega arith) g
-        edge (inr k) g n = none-some n (side-in (start-at t) (end-at t) b (high t) y w m (q + 1) (omega arith) (omega (arith, side-order (start-at t) (end-at t) b (high t) y w m)))
+        edge (inr k) g n = none≢some _ (sym n ∙ side-in (start-at t) (end-at t) b (t .width .points) y w m (q + 1) (omega arith) (omega (arith, side-order (start-at t) (end-at t) b (t .width .points) y w m)))
 
 module _ {P : Type 0} {t : Two P} {c : Cursor} (ready : Ready t c) where
   abbrev la : ℕ
@@ -87,7 +89,7 @@ module _ {P : Type 0} {t : Two P} {c : Cursor} (ready : Ready t c) where
           order = f .order;
           below = l;
           bits = (omega arith, omega arith);
-          early = λ z m. let i = f .early z m .0 in let j = f .early z m .1 in rw (i, j) (keeps-nothing o);
+          early = λ z m. let i = f .early z m .0 in let j = f .early z m .1 in rw (i, j) (said-nothing o);
           kept = keep;
           edge = f .edge;
         }
@@ -100,7 +102,7 @@ module _ {P : Type 0} {t : Two P} {c : Cursor} (ready : Ready t c) where
       pub left-alone : stop t ≤ ra → Emits t o c ls le 1
       left-alone m = left-made le (k .below) (rw (k .is) (alone t (t .middle) (stop t) (c .left) (c .right) (ready .left) h m))
 
-  right-made : (q : ℕ) → q < t .width .points → Prefix t (stop t) (t .middle) (c .right) (c .left) q → Emits t full c rs q 2
+  right-made : (q : ℕ) → q < t .width .points → Prefix t (stop t) (t .middle) (c .right) (c .left) q → Emits t Full c rs q 2
   right-made q l f =
       record {
         covering = record { ready = ready; left = f .misses; right = f .covers };
@@ -113,10 +115,10 @@ module _ {P : Type 0} {t : Two P} {c : Cursor} (ready : Ready t c) where
       }
 
   module _ (h : ra < stop t) {re : ℕ} (k : KeyAt (t .width) (t .ends) ra re) where
-    pub right-prefix : la < t .middle → rs < ls → {q : ℕ} → q ≡ min re (ls - 1) → Emits t full c rs q 2
+    pub right-prefix : la < t .middle → rs < ls → {q : ℕ} → q ≡ min re (ls - 1) → Emits t Full c rs q 2
     right-prefix m l {q} e = right-made q (omega (arith, k .below)) (prefix t (stop t) (t .middle) (c .right) (c .left) (ready .right) h (ready .left) m l q (omega (arith, k .is)))
 
-    pub right-alone : t .middle ≤ la → Emits t full c rs re 2
+    pub right-alone : t .middle ≤ la → Emits t Full c rs re 2
     right-alone m = right-made re (k .below) (rw (k .is) (alone t (stop t) (t .middle) (c .right) (c .left) (ready .right) h m))
 
   -- before p the operation says nothing
@@ -124,9 +126,9 @@ module _ {P : Type 0} {t : Two P} {c : Cursor} (ready : Ready t c) where
   Early o p = (z : ℕ) → z < p → said o (at (left-of t c) z) (at (right-of t c) z) ≡ none
 
   keeps-both : (o : Pairing) → keeps o (some la, some ra) ≡ true
-  keeps-both inner = refl
-  keeps-both left = refl
-  keeps-both full = refl
+  keeps-both Inner = refl
+  keeps-both Left = refl
+  keeps-both Full = refl
 
   module _ (h : la < t .middle) (m : ra < stop t) {le re : ℕ} (k : KeyAt (t .width) (t .ends) la le) (j : KeyAt (t .width) (t .ends) ra re) where
     both-made : (o : Pairing) (p q : ℕ) → Early o p → ls ≤ p → rs ≤ p → p ≤ le → p ≤ re → q ≡ min le re → Emits t o c p q 3
@@ -158,41 +160,41 @@ module _ {P : Type 0} {t : Two P} {c : Cursor} (ready : Ready t c) where
     right-order = ordered t (stop t) 0 (c .right) (c .right) (ready .right) m
 
     -- both start together
-    pub both-start : ls ≡ rs → {q : ℕ} → q ≡ min le re → Emits t full c ls q 3
-    both-start l {q} e = both-made full ls q (λ z g. let u = left-before z g in let v = right-before z (omega arith) in rw (u, v)) (omega arith) (omega arith) (omega (arith, left-order, k .is)) (omega (arith, right-order, j .is)) e
+    pub both-start : ls ≡ rs → {q : ℕ} → q ≡ min le re → Emits t Full c ls q 3
+    both-start l {q} e = both-made Full ls q (λ z g. let u = left-before z g in let v = right-before z (omega arith) in rw (u, v)) (omega arith) (omega arith) (omega (arith, left-order, k .is)) (omega (arith, right-order, j .is)) e
 
     -- the right covers the left's start
-    pub left-covered : rs ≤ ls → ls ≤ re → {q : ℕ} → q ≡ min le re → Emits t left c ls q 3
-    left-covered l d {q} e = both-made left ls q (λ z g. let u = left-before z g in rw u) (omega arith) l (omega (arith, left-order, k .is)) d e
+    pub left-covered : rs ≤ ls → ls ≤ re → {q : ℕ} → q ≡ min le re → Emits t Left c ls q 3
+    left-covered l d {q} e = both-made Left ls q (λ z g. let u = left-before z g in rw u) (omega arith) l (omega (arith, left-order, k .is)) d e
 
     -- they share a point
-    pub overlap : ls ≤ re → rs ≤ le → {p q : ℕ} → p ≡ max ls rs → q ≡ min le re → Emits t inner c p q 3
-    overlap l d {p} {q} f e = both-made inner p q (λ z g. early z (le-or-lt ls z) g) (omega arith) (omega arith) (omega (arith, left-order, k .is)) (omega (arith, right-order, j .is)) e
+    pub overlap : ls ≤ re → rs ≤ le → {p q : ℕ} → p ≡ max ls rs → q ≡ min le re → Emits t Inner c p q 3
+    overlap l d {p} {q} f e = both-made Inner p q (λ z g. early z (le-or-lt ls z) g) (omega arith) (omega arith) (omega (arith, left-order, k .is)) (omega (arith, right-order, j .is)) e
       where
-        early : (z : ℕ) → (ls ≤ z) ⊎ (z < ls) → z < p → said inner (at (left-of t c) z) (at (right-of t c) z) ≡ none
+        early : (z : ℕ) → (ls ≤ z) ⊎ (z < ls) → z < p → said Inner (at (left-of t c) z) (at (right-of t c) z) ≡ none
         early z (inl g) n = let v = right-before z (omega arith) in rw v (go (at (left-of t c) z))
           where
-            go : (a : Option ℕ) → said inner a none ≡ none
+            go : (a : Option ℕ) → said Inner a none ≡ none
             go none = refl
             go (some i) = refl
         early z (inr g) n = let u = left-before z g in rw u
 
 -- a side without its range at x, which has gone
-module _ {P : Type 0} (t : Two P) (a : ℕ) (x y : Side) (u : Within 0 (high t) (side (start-at t) (end-at t) a x)) (h : x .at < a) (f : Fresh (t .width) (t .starts) a (x .at + 1) y) where
+module _ {P : Type 0} (t : Two P) (a : ℕ) (x y : Side) (u : Within 0 (t .width .points) (side (start-at t) (end-at t) a x)) (h : x .at < a) (f : Fresh (t .width) (t .starts) a (x .at + 1) y) where
   abbrev e : ℕ
   e = end-at t (x .at)
 
   is-onward : list t a y ≡ onward (start-at t) (end-at t) a (x .at + 1)
   is-onward = side-fresh (start-at t) (end-at t) a (x .at + 1) y (f .place) (f .from)
 
-  rest-within : Within (e + 1) (high t) (list t a y)
-  rest-within = rw is-onward (onward-within (start-at t) (end-at t) a (high t) x u h)
+  rest-within : Within (e + 1) (t .width .points) (list t a y)
+  rest-within = rw is-onward (onward-within (start-at t) (end-at t) a (t .width .points) x u h)
 
   rest-ascends : Ascends t a y
-  rest-ascends = within-low 0 (e + 1) (high t) (list t a y) (omega arith) rest-within
+  rest-ascends = within-low 0 (e + 1) (t .width .points) (list t a y) (omega arith) rest-within
 
   rest-at : (z : ℕ) → e < z → at (list t a y) z ≡ at (list t a x) z
-  rest-at z l = rw is-onward (sym (side-after (start-at t) (end-at t) a (high t) x u h z l))
+  rest-at z l = rw is-onward (sym (side-after (start-at t) (end-at t) a (t .width .points) x u h z l))
 
 -- what a step may go on from in place of c
 pub record Instead {P : Type 0} (t : Two P) (o : Pairing) (c d : Cursor) : Type 0 where
@@ -206,7 +208,7 @@ pub instead : {P : Type 0} {t : Two P} {o : Pairing} {b c d : Cursor} → Instea
 instead f g = record { ready = g .ready; same = f .same ∙ g .same }
 
 -- a step from there is a step from c
-pub instead-step : {P : Type 0} {t : Two P} {o : Pairing} {c d : Cursor} → Instead t o c d → (r : Step) → Stepped t o d r → Stepped t o c r
+pub instead-step : {P : Type 0} {t : Two P} {o : Pairing} {c d : Cursor} → Instead t o c d → (r : NextPair) → Stepped t o d r → Stepped t o c r
 instead-step f Done s = f .same ∙ s
 instead-step f (Next y k) s = record { next = f .same ∙ s .next; ready = s .ready; fits = s .fits }
 
@@ -217,7 +219,7 @@ WantsLeft o = (b : Option ℕ) → said o none b ≡ none
 abbrev pub WantsRight : Pairing → Type 0
 WantsRight o = (a : Option ℕ) → said o a none ≡ none
 
-pub inner-wants-right : WantsRight inner
+pub inner-wants-right : WantsRight Inner
 inner-wants-right none = refl
 inner-wants-right (some i) = refl
 
@@ -225,8 +227,8 @@ module _ {P : Type 0} {t : Two P} {c : Cursor} (ready : Ready t c) where
   made-same : (o : Pairing) (d : Cursor) → Ascends t (t .middle) (d .left) → Ascends t (stop t) (d .right) → ((z : ℕ) → said o (at (left-of t d) z) (at (right-of t d) z) ≡ said o (at (left-of t c) z) (at (right-of t c) z)) → Instead t o c d
   made-same o d u w e =
       record {
-        ready = record { some-point = ready .some-point; ends-long = ready .ends-long; splits = ready .splits; left = u; right = w };
-        same = pair-same o (t .width .points) (high t) (ready .some-point) (omega arith) (left-of t c) (right-of t c) (ready .left) (ready .right) (left-of t d) (right-of t d) u w e;
+        ready = record { ends-long = ready .ends-long; splits = ready .splits; left = u; right = w };
+        same = pair-same o (t .width .points) (left-of t c) (right-of t c) (ready .left) (ready .right) (left-of t d) (right-of t d) u w e;
       }
 
   -- a right range that ends before the left starts can go
@@ -246,7 +248,7 @@ module _ {P : Type 0} {t : Two P} {c : Cursor} (ready : Ready t c) where
       go z (inr k) = let i = before t (stop t) 0 (c .right) (c .right) (ready .right) m z k in rw i (wants _ ∙ sym (wants _))
 
   nothing : (o : Pairing) → ((z : ℕ) → said o (at (left-of t c) z) (at (right-of t c) z) ≡ none) → Stepped t o c Done
-  nothing o e = pair-none o (t .width .points) (high t) (ready .some-point) (omega arith) (left-of t c) (right-of t c) (ready .left) (ready .right) e
+  nothing o e = pair-none o (t .width .points) (left-of t c) (right-of t c) (ready .left) (ready .right) e
 
   left-gone : t .middle ≤ c .left .at → (z : ℕ) → at (left-of t c) z ≡ none
   left-gone h z = rw (side-done (start-at t) (end-at t) (t .middle) (c .left) h)
@@ -261,4 +263,4 @@ module _ {P : Type 0} {t : Two P} {c : Cursor} (ready : Ready t c) where
   right-done o wants h = nothing o (λ z. let i = right-gone h z in rw i (wants _))
 
   pub both-done : (o : Pairing) → t .middle ≤ c .left .at → stop t ≤ c .right .at → Stepped t o c Done
-  both-done o h m = nothing o (λ z. let i = left-gone h z in let j = right-gone m z in rw (i, j) (keeps-nothing o))
+  both-done o h m = nothing o (λ z. let i = left-gone h z in let j = right-gone m z in rw (i, j) (said-nothing o))
