@@ -62,10 +62,10 @@ module _ {P : Type 0} (w : Width P) (l : Lent P) where
   -- list k has as many ranges as its count says; its range j stands in the columns after the ranges of the lists before it and its own before j
   module _ (k : ℕ) (h : k < length (l .counts)) where
     pub lists-long : length (getD (lists w l) k []) ≡ getD (l .counts) k 0
-    lists-long = list-long (keys w (l .starts)) (keys w (l .ends)) (λ i. getD (l .values) i (pos 0)) (l .counts) k h
+    lists-long = list-long _ _ _ (l .counts) k h
 
     pub tracks-long : length (getD (tracks w l) k []) ≡ getD (l .counts) k 0
-    tracks-long = list-long (keys w (l .starts)) (keys w (l .ends)) (λ i. i) (l .counts) k h
+    tracks-long = list-long _ _ _ (l .counts) k h
 
     module _ (j : ℕ) (m : j < getD (l .counts) k 0) where
       abbrev place : ℕ

@@ -17,6 +17,9 @@ pub record Order {A : Type 0} (R : A → A → Type 0) : Type 0 where
   pub trans : (a b c : A) → R a b → R b c → R a c
   pub both : (a b : A) → R a b → R b a → a ≡ b
 
+pub reversed : {A : Type 0} {R : A → A → Type 0} → Order R → Order (λ a b. R b a)
+reversed o = record { self = o .self; trans = λ a b c p q. o .trans c b a q p; both = λ a b p q. o .both a b q p }
+
 -- r is x, which nothing of rest is beyond, or the rest's own m, which x is not beyond
 abbrev pub Better : {A : Type 0} → (A → A → Type 0) → A → A → A → Type 0
 Better R x m r = ((r ≡ x) × R m x) ⊎ ((r ≡ m) × R x m)

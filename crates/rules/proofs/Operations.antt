@@ -1,4 +1,4 @@
--- The event listing and the two-way operations as calls: each answer exactly when the table says so for an operation of its kind, and what each place of each column holds afterwards. Assumes nothing.
+-- Operations as calls: each answer exactly when the table says so for an operation of its kind, and what each place of each column holds afterwards. Assumes nothing.
 use Prim.Native.Nat.{ℕ, _+_, _≤_, _<_}
 use mathlib.Core.Path.{_≡_, refl, sym, ap, _∙_, subst}
 use mathlib.Core.Logic.{_↔_, _≢_}
@@ -7,13 +7,15 @@ use mathlib.Core.List.{List, [], _∷_}
 use native.Mathlib.Omega.{arith}
 use lib.IntN.{ℤ, pos}
 use lib.ListN.{length, getD}
-use Rattle.rules.specs.Piece.{Piece}
+use Rattle.rules.specs.Piece.{Piece, Range}
 use Rattle.rules.specs.Lists.{Width, Lent, lists, tracks}
 use Rattle.rules.specs.Answer.{code-of, judge, Outcome, settle, least, front}
 use Rattle.rules.specs.Sweep.{Event, starts, ends, point, kind, list, events}
 use Rattle.rules.specs.TwoWay.{Match, paired, side-value, presence}
+use Rattle.rules.specs.Merged.{Merged}
 use Rattle.rules.specs.Paired.{Paired}
 use Rattle.rules.specs.Listed.{Listed, event-value}
+use Rattle.rules.specs.Merged as merged-columns
 use Rattle.rules.specs.Paired as paired-columns
 use Rattle.rules.specs.Listed as listed-columns
 use Rattle.rules.specs.Outcomes.{pairing, listing}
@@ -56,8 +58,8 @@ module _ {P C R : Type 0} (w : Width P) (k : Kind) (l : Lent P) (rs : List R) (n
       omega arith
 
   -- where the columns after the call hold the pieces if all of them fit
-  pub settled : (length rs ≤ least (n ∷ ns) → (i : ℕ) (r : R) → i < length rs → Row after i (getD rs i r)) → (length rs ≤ least (n ∷ ns) → Later (length rs) c after) → Settled w k l rs (n ∷ ns) Row Later c out
-  settled row rest =
+  pub settles : (length rs ≤ least (n ∷ ns) → (i : ℕ) (r : R) → i < length rs → Row after i (getD rs i r)) → (length rs ≤ least (n ∷ ns) → Later (length rs) c after) → Settled w k l rs (n ∷ ns) Row Later c out
+  settles row rest =
       record {
         answer = λ room s a. subst (λ m. (out .answer ≡ a) ↔ Given w k l (length rs) m a) (least-exactly n ns room .1 s) (given w k l (length rs) (least (n ∷ ns)) c after a);
         refused = refused-keeps (length rs) (least (n ∷ ns)) c after (judge w k l);
@@ -74,6 +76,13 @@ module _ {A R : Type 0} (f : R → A) (rs : List R) (old : List A) (h : length r
 
   pub front-keeps : Keeps (length rs) old (front f rs old)
   front-keeps = record { long = laid-long f 0 rs old (omega arith); rest = λ i d l. laid-after f 0 rs old (omega arith) i d (omega arith) }
+
+-- the rows of a many-way join or selection
+abbrev pub MergedRow : {P : Type 0} → Width P → Merged P → ℕ → Range → Type 0
+MergedRow w c i x = Has (c .start) i (w .point (x .start)) × Has (c .end) i (w .point (x .end)) × Has (c .value) i (x .value)
+
+abbrev pub MergedLater : {P : Type 0} → ℕ → Merged P → Merged P → Type 0
+MergedLater n c d = Keeps n (c .start) (d .start) × Keeps n (c .end) (d .end) × Keeps n (c .value) (d .value)
 
 -- the rows of a two-way operation, whose values are v by their places; a missing side is written as value 0 with its presence bit clear: bit 0 left, bit 1 right
 abbrev pub Sides : {P : Type 0} → (ℕ → ℤ) → Paired P → ℕ → Match → Type 0
@@ -108,6 +117,13 @@ module _ {P : Type 0} (w : Width P) (c : Listed P) (i : ℕ) where
   event-row (starts p k v) a b d e = (a, b, d, e)
   event-row (ends p k) a b d e = (a, b, d, e)
 
+module _ {P : Type 0} (w : Width P) (xs : List Range) (c : Merged P) (h : length xs ≤ merged-columns.room c) where
+  merged-rows : (i : ℕ) (x : Range) → i < length xs → MergedRow w (merged-columns.lay w 0 xs c) i (getD xs i x)
+  merged-rows i x l = (front-has _ xs (c .start) (omega arith) i x l, front-has _ xs (c .end) (omega arith) i x l, front-has _ xs (c .value) (omega arith) i x l)
+
+  merged-later : MergedLater (length xs) c (merged-columns.lay w 0 xs c)
+  merged-later = (front-keeps _ xs _ (omega arith), front-keeps _ xs _ (omega arith), front-keeps _ xs _ (omega arith))
+
 module _ {P : Type 0} (w : Width P) (v : ℕ → ℤ) (xs : List (Piece Match)) (c : Paired P) (h : length xs ≤ paired-columns.room c) where
   pair-rows : (i : ℕ) (x : Piece Match) → i < length xs → PairRow w v (paired-columns.lay w v 0 xs c) i (getD xs i x)
   pair-rows i x l = (
@@ -129,15 +145,19 @@ module _ {P : Type 0} (w : Width P) (es : List (Event ℤ)) (c : Listed P) (h : 
   events-later = (front-keeps _ es _ (omega arith), front-keeps _ es _ (omega arith), front-keeps _ es _ (omega arith), front-keeps _ es _ (omega arith))
 
 module _ {P : Type 0} (w : Width P) (l : Lent P) where
+  -- an operation of kind k that merges
+  pub merged-settled : (k : Kind) (xs : List Range) (c : Merged P) → Settled w k l xs (length (c .start) ∷ length (c .end) ∷ length (c .value) ∷ []) (MergedRow w) MergedLater c (settle (judge w k l) (length xs) (merged-columns.room c) c (merged-columns.lay w 0 xs c))
+  merged-settled k xs c = settles w k l xs _ _ (MergedRow w) MergedLater c (merged-columns.lay w 0 xs c) (merged-rows w xs c) (merged-later w xs c)
+
   pub pairing-settled : (o : Pairing) (c : Paired P) → Settled w TwoWay l (paired o (w .points) (tracks w l)) (length (c .start) ∷ length (c .end) ∷ length (c .left) ∷ length (c .right) ∷ length (c .presence) ∷ []) (PairRow w (λ i. getD (l .values) i (pos 0))) PairsLater c (pairing w o l c)
   unfolding pairing
   pairing-settled o c =
       let xs = paired o (w .points) (tracks w l) in
       let v : ℕ → ℤ = λ i. getD (l .values) i (pos 0) in
-      settled w TwoWay l xs _ _ (PairRow w v) PairsLater c (paired-columns.lay w v 0 xs c) (pair-rows w v xs c) (pairs-later w v xs c)
+      settles w TwoWay l xs _ _ (PairRow w v) PairsLater c (paired-columns.lay w v 0 xs c) (pair-rows w v xs c) (pairs-later w v xs c)
 
   pub listing-settled : (c : Listed P) → Settled w Listing l (events (lists w l)) (length (c .kind) ∷ length (c .point) ∷ length (c .list) ∷ length (c .value) ∷ []) (EventRow w) EventsLater c (listing w l c)
   unfolding listing
   listing-settled c =
       let es = events (lists w l) in
-      settled w Listing l es _ _ (EventRow w) EventsLater c (listed-columns.lay w 0 es c) (event-rows w es c) (events-later w es c)
+      settles w Listing l es _ _ (EventRow w) EventsLater c (listed-columns.lay w 0 es c) (event-rows w es c) (events-later w es c)

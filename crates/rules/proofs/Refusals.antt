@@ -2,7 +2,7 @@
 use Prim.Native.Nat.{ℕ, suc, _≤_, _<_}
 use mathlib.Core.Path.{_≡_, refl, sym, ap, _∙_, subst}
 use mathlib.Core.Logic.{_↔_, _≢_, _⊎_, inl, inr, ⊎-elim}
-use mathlib.Core.Bool.{Bool, true, false, not-eq-not, false≢true}
+use mathlib.Core.Bool.{Bool, true, false, cond, not-eq-not, false≢true}
 use mathlib.Core.List.{[], _∷_}
 use native.Mathlib.Omega.{arith}
 use native.Mathlib.Nat.{sub-zero, eq-or-lt-of-le, le-of-suc-le-suc}
@@ -10,7 +10,7 @@ use lib.ListN.{length, getD}
 use borrow.Author.Tests.{le-ltb, le-leb, lt-leb}
 use Rattle.rules.proofs.At.{le-or-lt}
 use Rattle.rules.specs.Lists.{Width, Lent, keys, tracks}
-use Rattle.rules.specs.Answer.{code-of, refuse, judge-lists, two-way, unknown-combiner, agree, judge, Outcome, settle}
+use Rattle.rules.specs.Answer.{code-of, refuse, judge-lists, two-way, unknown-combiner, agree, judge, Outcome, leaves, settle}
 use Rattle.rules.specs.Refusals.{turn, Agree, Formed, IsBackward, IsOverlap, FirstFault, Due, Given}
 use Rattle.rules.specs.declared.Answer.{Answer}
 use Rattle.rules.specs.declared.Answer.the-variants.{Done, TooManyLists, NotTwoLists, TooManyRanges, ColumnsDiffer, Backward, Overlap, UnknownCombiner, NoRoom}
@@ -21,11 +21,14 @@ use Rattle.rules.specs.declared.Kind.the-variants.{Listing, TwoWay, Join
 use Rattle.rules.proofs.Faults.{Tells, tells-true, tells-lt, tells-le, tells-eq, tells-not, tells-both, tells-as, tells-holds, tells-not-holds, Names, backward, overlap, names-fault, Fault, Finds, sound, refused, fault-only, finds-lists, not-refused, all-clear, all-formed}
 
 module _ {C : Type 0} (needed room : ℕ) (before after : C) where
-  fits : needed ≤ room → settle Sound needed room before after ≡ record { answer = Done needed; columns = after }
-  fits h = rw (le-leb needed room h)
+  abbrev choice : Bool → Outcome C
+  choice t = cond t (leaves (Done needed) after) (leaves (NoRoom needed) before)
 
-  lacks : room < needed → settle Sound needed room before after ≡ record { answer = NoRoom needed; columns = before }
-  lacks h = rw (lt-leb needed room h)
+  lacks : room < needed → settle Sound needed room before after ≡ leaves (NoRoom needed) before
+  lacks h = ap choice (lt-leb needed room h)
+
+  fits : needed ≤ room → settle Sound needed room before after ≡ leaves (Done needed) after
+  fits h = ap choice (le-leb needed room h)
 
   -- every refusal leaves the columns untouched
   pub refused-keeps : (j : Judgement) → code-of (settle j needed room before after .answer) ≢ 0 → settle j needed room before after .columns ≡ before

@@ -194,7 +194,7 @@ module _ {P : Type 0} where
         }
 
     room-alike : (c c' : Paired P) → Alike c c' → room c ≡ room c'
-    room-alike c c' h = rw (h .start, h .end, h .presence, h .left, h .right)
+    room-alike c c' h = cc
 
     -- changing values while starts and ends stay alters no piece's start, end or presence
     pub values-alter-nothing : (o : Pairing) (l l' : Lent P) (c c' : Paired P) → SameRanges l l' → Alike c c' → AlikeOutcomes (pairing w o l c) (pairing w o l' c')
