@@ -1,0 +1,177 @@
+-- `multiway_join_instant::pass` meets its contract: the pieces done and the one pending say what the rule says up to the last stretch. Assumes nothing.
+use Prim.Native.Nat.{ℕ, _-_}
+use mathlib.Core.Path.{refl, _∙_}
+use native.Mathlib.Omega.{arith}
+use borrow.Author.Needs.{needs}
+use mir.Syntax.{w64}
+use Rattle.integer.proofs.Laws.{back}
+use Rattle.rules.specs.Lists.{Lent, instants, lists}
+use Rattle.rules.specs.Merged.{Merged}
+use Rattle.many_way_rules.specs.declared.Operation.the-variants.{Join}
+use Rattle.multiway_sweep.specs.Steps.{reads}
+use Rattle.join_sweep.specs.Stretches.{after, moment-of, Joining}
+use Rattle.join_sweep.proofs.Begins.{zeros, joining-first, finds-next, finds-none}
+use Rattle.multiway_join.specs.Pieces.{waiting}
+use Rattle.multiway_join.proofs.Going.{Going, going-first, going-long, last-puttable, walked, turn-less, turn-silent, turn-apart, turn-puttable, turn-more}
+use Rattle.multiway_join.proofs.Joins.{lists-formed, lists-few, ruled-out, ruled-in, join, walkable, joined}
+use Rattle.multiway_join_instant.proofs.pass.Statement.{statement}
+use Rattle.multiway_join_instant.proofs.pass.Tie as tie
+
+abbrev Inv-loop : tie.InvT-loop
+Inv-loop admission combiner starts ends values counts write out-start₀ out-end₀ out-value₀ cursors₀ start-keys₀ start-lists₀ end-keys₀ end-lists₀ current₀ present₀ sweep₀ last-end₀ pending₀ count₀ out-start out-end out-value cursors start-keys start-lists end-keys end-lists current present sweep last-end pending count =
+    let l : Lent _ = record { starts = starts; ends = ends; values = values; counts = counts } in
+    let c : Merged _ = record { start = out-start₀; end = out-end₀; value = out-value₀ } in
+    Joining instants (reads l) (lists instants l) (record { cursors = cursors; start-keys = start-keys; start-lists = start-lists; end-keys = end-keys; end-lists = end-lists }) (record { current = current; present = present }) sweep (moment-of last-end)
+    × Going (join instants (Join admission combiner) l write c) (record { start = out-start; end = out-end; value = out-value }) (waiting pending) count (after last-end)
+
+abbrev μ-loop : tie.MeasureT-loop
+μ-loop admission combiner starts ends values counts write out-start₀ out-end₀ out-value₀ cursors₀ start-keys₀ start-lists₀ end-keys₀ end-lists₀ current₀ present₀ sweep₀ last-end₀ pending₀ count₀ out-start out-end out-value cursors start-keys start-lists end-keys end-lists current present sweep last-end pending count =
+    instants .points - after last-end
+
+-- the places that the answers cite: the entry, a turn, its stretch, what is said of it, and the piece that is pushed
+abbrev Start : Type 0
+Start = tie.Start Inv-loop μ-loop
+
+abbrev Loop : Type 0
+Loop = tie.At-loop Inv-loop μ-loop
+
+abbrev Asked : Type 0
+Asked = tie.After-next-stretch Inv-loop μ-loop
+
+abbrev Found : Type 0
+Found = tie.After-stretch Inv-loop μ-loop
+
+abbrev Ruled : Type 0
+Ruled = tie.After-rule-on Inv-loop μ-loop
+
+abbrev Admitted : Type 0
+Admitted = tie.After-ruling Inv-loop μ-loop
+
+abbrev Told : Type 0
+Told = tie.After-known-told2 Inv-loop μ-loop
+
+abbrev Pushed : Type 0
+Pushed = tie.After-push-merged Inv-loop μ-loop
+
+abbrev entry : Loop → Start
+entry l = search
+
+abbrev turn : Asked → Loop
+turn n = search
+
+abbrev asked : Found → Asked
+asked f = search
+
+abbrev found : Ruled → Found
+found r = search
+
+abbrev ruled : Admitted → Ruled
+ruled v = search
+
+abbrev admitted : Told → Admitted
+admitted k = search
+
+abbrev told : Pushed → Told
+told u = search
+
+pub pass-spec : {M : Type 1} → statement M
+pass-spec =
+    tie.close
+    (tie.spec
+    Inv-loop
+    μ-loop
+    -- the first event
+    (λ c κs. let a : Start = search in ((_, a .pre .formed), zeros))
+    -- the walk begins
+    (λ c. let f : tie.After-first-event Inv-loop μ-loop = search in let a : Start = search in (joining-first (lists-formed (a .pre .formed)) (lists-few (a .pre .formed)) (f .first-event .ensures), going-first (walkable (a .pre))))
+    -- the next stretch
+    (λ c κs. let l : Loop = search in ((_, l .loop .inv .0), l .loop .inv .1 .upto))
+    (λ c. search needs)
+    (λ c. search needs)
+    -- none is left: what is pending is put
+    (λ c κs.
+    let e : tie.After-enum-told Inv-loop μ-loop = search in
+    let n : Asked = search in
+    let l = turn n in
+    let a = entry l in
+    last-puttable (walkable (a .pre)) (l .loop .inv .1) (finds-none instants _ _ _ _ _ (e .enum-told .given .1) (n .next-stretch .ensures _ (l .loop .inv .0))))
+    (λ c.
+    let p : tie.After-put Inv-loop μ-loop = search in
+    let n : Asked = search in
+    let l = turn n in
+    p .put .kept .1 .1 .1 .0 ∙ going-long (walkable (entry l .pre)) (l .loop .inv .1) .0)
+    (λ c.
+    let p : tie.After-put Inv-loop μ-loop = search in
+    let n : Asked = search in
+    let l = turn n in
+    p .put .kept .1 .1 .1 .1 .0 ∙ going-long (walkable (entry l .pre)) (l .loop .inv .1) .1 .0)
+    (λ c.
+    let p : tie.After-put Inv-loop μ-loop = search in
+    let n : Asked = search in
+    let l = turn n in
+    p .put .kept .1 .1 .1 .1 .1 .0 ∙ going-long (walkable (entry l .pre)) (l .loop .inv .1) .1 .1 .0)
+    (λ c.
+    let p : tie.After-put Inv-loop μ-loop = search in
+    let e : tie.After-enum-told Inv-loop μ-loop = search in
+    let n : Asked = search in
+    let l = turn n in
+    let a = entry l in
+    joined (a .pre) (walked (walkable (a .pre)) (l .loop .inv .1) (finds-none instants _ _ _ _ _ (e .enum-told .given .1) (n .next-stretch .ensures _ (l .loop .inv .0))) (p .put .ensures)))
+    -- what the join says of the stretch
+    (λ c κs. let f : Found = search in entry (turn (asked f)) .pre .formed .lists-few)
+    (λ c. search needs)
+    -- it is admitted with a value: the piece is pushed, and what is done is put
+    (λ c κs.
+    let v : Admitted = search in
+    let f = found (ruled v) in
+    let n = asked f in
+    let l = turn n in
+    let a = entry l in
+    let t = finds-next instants _ _ _ _ _ (f .stretch .given .1) (n .next-stretch .ensures _ (l .loop .inv .0)) in
+    turn-apart (walkable (a .pre)) (l .loop .inv .1) (t .0))
+    (λ c κs.
+    let u : Pushed = search in
+    let k = told u in
+    let v = admitted k in
+    let f = found (ruled v) in
+    let n = asked f in
+    let l = turn n in
+    let a = entry l in
+    let t = finds-next instants _ _ _ _ _ (f .stretch .given .1) (n .next-stretch .ensures _ (l .loop .inv .0)) in
+    turn-puttable (walkable (a .pre)) (l .loop .inv .1) (t .0) (u .push-merged .ensures) refl refl (ruled-in (a .pre) _ (t .0) _ (ruled v .rule-on .ensures) (v .ruling .given .1) (back w64 _ (k .known-told2 .given .0 .1))))
+    (λ c.
+    let v : Admitted = search in
+    let f = found (ruled v) in
+    let n = asked f in
+    let l = turn n in
+    let a = entry l in
+    let t = finds-next instants _ _ _ _ _ (f .stretch .given .1) (n .next-stretch .ensures _ (l .loop .inv .0)) in
+    turn-less (walkable (a .pre)) (l .loop .inv .1) (t .0))
+    (λ c.
+    let p : tie.After-put2 Inv-loop μ-loop = search in
+    let u : Pushed = search in
+    let k = told u in
+    let v = admitted k in
+    let f = found (ruled v) in
+    let n = asked f in
+    let l = turn n in
+    let a = entry l in
+    let t = finds-next instants _ _ _ _ _ (f .stretch .given .1) (n .next-stretch .ensures _ (l .loop .inv .0)) in
+    (t .1, turn-more (walkable (a .pre)) (l .loop .inv .1) (t .0) (u .push-merged .ensures) refl refl (ruled-in (a .pre) _ (t .0) _ (ruled v .rule-on .ensures) (v .ruling .given .1) (back w64 _ (k .known-told2 .given .0 .1))) (p .put2 .ensures)))
+    -- it is not admitted
+    (λ c. search needs)
+    (λ c.
+    let f : Found = search in
+    let n = asked f in
+    let l = turn n in
+    let a = entry l in
+    let t = finds-next instants _ _ _ _ _ (f .stretch .given .1) (n .next-stretch .ensures _ (l .loop .inv .0)) in
+    turn-less (walkable (a .pre)) (l .loop .inv .1) (t .0))
+    (λ c.
+    let r : Ruled = search in
+    let f = found r in
+    let n = asked f in
+    let l = turn n in
+    let a = entry l in
+    let t = finds-next instants _ _ _ _ _ (f .stretch .given .1) (n .next-stretch .ensures _ (l .loop .inv .0)) in
+    (t .1, turn-silent (walkable (a .pre)) (l .loop .inv .1) (t .0) (ruled-out (a .pre) _ (t .0) _ (r .rule-on .ensures) (c .enum-told2 .given .1)))))

@@ -1,0 +1,300 @@
+// The many-way joins over lent columns: one pass over the stretches of the lists, and the public operations.
+
+use form_instant::judge;
+use integer::instant::Point;
+use integer::instant::greatest_key;
+use integer::instant::put_key;
+use join_sweep::JoinSweep;
+use join_sweep::LastEnd;
+use join_sweep::Stretch;
+use join_sweep_instant::first_event;
+use join_sweep_instant::next_stretch;
+use many_way_rules::Admission;
+use many_way_rules::known;
+use multiway_join::Pending;
+use multiway_join::Piece;
+use multiway_join::Ruling;
+use multiway_join::most;
+use multiway_join::push_merged;
+use multiway_join::rule_on;
+use multiway_join::shortest;
+use rules::Answer;
+use rules::Judgement;
+use rules::Kind;
+ghost use Prim.Native.Nat.{_<_};
+ghost use mathlib.Core.Path.{_≡_};
+ghost use lib.ListN.{length};
+ghost use Rattle.rules.specs.Lists.{instants, lists, lent, given};
+ghost use Rattle.rules.specs.Answer.{leaves};
+ghost use Rattle.rules.specs.Refusals.{Formed};
+ghost use Rattle.rules.specs.Merged.{output, before, after, room, lay};
+ghost use Rattle.many_way_rules.specs.Operations.{inner, full, kind-of, merged};
+ghost use Rattle.many_way_rules.specs.Outcomes.{merging};
+ghost use Rattle.many_way_rules.specs.declared.Operation.the-variants.{Join};
+ghost use Rattle.multiway_join.specs.Pieces.{waiting};
+ghost use Rattle.multiway_join.specs.Passes.{Puttable, PutPieces, Joinable, of-none};
+
+// Writes a piece that is done, if there is one, at a place of the columns, where it is to be written; the place after it.
+fn put(
+    write: bool,
+    place: usize,
+    done: Pending,
+    out_start: &mut [Point],
+    out_end: &mut [Point],
+    out_value: &mut [i64],
+) -> usize
+    requires { ⌜ Puttable (instants .points) (room (output «out_start» «out_end» «out_value»)) write place (waiting done) ⌝ }
+    ensures { λ r.
+        let c = before «out_start» «out_end» «out_value» in
+        ⌜ PutPieces (lay instants) write place (waiting done) c (after «out_start» «out_end» «out_value») r ⌝ }
+{
+    let Pending::One(piece) = done else {
+        return place;
+    };
+    if write {
+        let value = piece.value;
+        put_key(out_start, place, piece.start);
+        put_key(out_end, place, piece.end);
+        out_value[place] = value;
+        return place + 1;
+    }
+    place + 1
+}
+
+// One pass over all stretches: how many pieces there are. They are written where `write` says so.
+fn pass(
+    admission: Admission,
+    combiner: u8,
+    starts: &[Point],
+    ends: &[Point],
+    values: &[i32],
+    counts: &[u32],
+    write: bool,
+    out_start: &mut [Point],
+    out_end: &mut [Point],
+    out_value: &mut [i64],
+) -> usize
+    requires { ⌜ Joinable instants (Join admission combiner) (lent starts ends values counts) write (output «out_start» «out_end» «out_value») ⌝ }
+    ensures { λ r.
+        let xs = merged (Join admission combiner) (instants .points) (lists instants (given starts ends values counts)) in
+        let c = before «out_start» «out_end» «out_value» in
+        ⌜ PutPieces (lay instants) write 0 xs c (after «out_start» «out_end» «out_value») r ⌝ }
+{
+    let mut cursors: [usize; 32] = [0; 32];
+    let mut start_keys: [u64; 16] = [0; 16];
+    let mut start_lists: [u8; 16] = [0; 16];
+    let mut end_keys: [u64; 16] = [0; 16];
+    let mut end_lists: [u8; 16] = [0; 16];
+    let held = first_event(
+        starts,
+        ends,
+        values,
+        counts,
+        &mut cursors,
+        &mut start_keys,
+        &mut start_lists,
+        &mut end_keys,
+        &mut end_lists,
+    );
+    let mut current: [i32; 16] = [0; 16];
+    let mut present: [bool; 16] = [false; 16];
+    let mut sweep = JoinSweep {
+        held,
+        active_count: 0,
+    };
+    let mut last_end = LastEnd::Nothing;
+    let mut pending = Pending::Nothing;
+    let mut count: usize = 0;
+    loop {
+        let stretch = next_stretch(
+            starts,
+            ends,
+            values,
+            &mut cursors,
+            &mut start_keys,
+            &mut start_lists,
+            &mut end_keys,
+            &mut end_lists,
+            &mut current,
+            &mut present,
+            sweep,
+            last_end,
+        );
+        let Stretch::Next(range, at) = stretch else {
+            return put(write, count, pending, out_start, out_end, out_value);
+        };
+        sweep = at;
+        last_end = LastEnd::At(range.end);
+        let ruling = rule_on(admission, combiner, counts.len(), &current, &present);
+        if let Ruling::Value(value) = ruling {
+            let next = Piece {
+                start: range.start,
+                end: range.end,
+                value,
+            };
+            let pushed = push_merged(pending, next);
+            let done = pushed.done;
+            let piece = pushed.pending;
+            count = put(write, count, done, out_start, out_end, out_value);
+            pending = Pending::One(piece);
+        }
+    }
+}
+
+// Zero lists: what a join says of no lists it says of the whole line.
+fn of_none(
+    admission: Admission,
+    combiner: u8,
+    out_start: &mut [Point],
+    out_end: &mut [Point],
+    out_value: &mut [i64],
+) -> Answer
+    ensures { λ r. ⌜ leaves r (after «out_start» «out_end» «out_value»)
+        ≡ of-none instants (Join admission combiner) (before «out_start» «out_end» «out_value») ⌝ }
+{
+    let current: [i32; 16] = [0; 16];
+    let present: [bool; 16] = [false; 16];
+    let ruling = rule_on(admission, combiner, 0, &current, &present);
+    let Ruling::Value(value) = ruling else {
+        return Answer::Done(0);
+    };
+    if shortest(out_start.len(), out_end.len(), out_value.len()) == 0 {
+        return Answer::NoRoom(1);
+    }
+    let whole = Piece {
+        start: 0,
+        end: greatest_key(),
+        value,
+    };
+    Answer::Done(put(true, 0, Pending::One(whole), out_start, out_end, out_value))
+}
+
+// Writes all pieces where there is room for them. Where the room may not do, a counting pass tells how many there are.
+fn write_all(
+    admission: Admission,
+    combiner: u8,
+    starts: &[Point],
+    ends: &[Point],
+    values: &[i32],
+    counts: &[u32],
+    out_start: &mut [Point],
+    out_end: &mut [Point],
+    out_value: &mut [i64],
+) -> Answer
+    requires { ⌜ Formed instants (kind-of (Join admission combiner)) (lent starts ends values counts) × (0 < length (now counts)) ⌝ }
+    ensures { λ r. ⌜ leaves r (after «out_start» «out_end» «out_value»)
+        ≡ merging instants (Join admission combiner) (given starts ends values counts) (before «out_start» «out_end» «out_value») ⌝ }
+{
+    let space = shortest(out_start.len(), out_end.len(), out_value.len());
+    let mut sure = most(starts.len()) <= space;
+    loop {
+        let count = pass(
+            admission,
+            combiner,
+            starts,
+            ends,
+            values,
+            counts,
+            sure,
+            out_start,
+            out_end,
+            out_value,
+        );
+        if sure {
+            return Answer::Done(count);
+        }
+        if space < count {
+            return Answer::NoRoom(count);
+        }
+        sure = true;
+    }
+}
+
+// A many-way join of the lists that are lent.
+fn join_lists(
+    admission: Admission,
+    combiner: u8,
+    starts: &[Point],
+    ends: &[Point],
+    values: &[i32],
+    counts: &[u32],
+    out_start: &mut [Point],
+    out_end: &mut [Point],
+    out_value: &mut [i64],
+) -> Answer
+    ensures { λ r. ⌜ leaves r (after «out_start» «out_end» «out_value»)
+        ≡ merging instants (Join admission combiner) (given starts ends values counts) (before «out_start» «out_end» «out_value») ⌝ }
+{
+    let found = judge(Kind::Join(known(combiner)), starts, ends, values, counts);
+    if let Judgement::Refused(answer) = found {
+        return answer;
+    }
+    if counts.len() == 0 {
+        return of_none(admission, combiner, out_start, out_end, out_value);
+    }
+    write_all(
+        admission,
+        combiner,
+        starts,
+        ends,
+        values,
+        counts,
+        out_start,
+        out_end,
+        out_value,
+    )
+}
+
+// The inner join: every point in every list, with the combiner over their values.
+pub fn multiway_inner_join(
+    combiner: u8,
+    starts: &[Point],
+    ends: &[Point],
+    values: &[i32],
+    counts: &[u32],
+    out_start: &mut [Point],
+    out_end: &mut [Point],
+    out_value: &mut [i64],
+) -> Answer
+    ensures { λ r. ⌜ leaves r (after «out_start» «out_end» «out_value»)
+        ≡ merging instants (inner combiner) (given starts ends values counts) (before «out_start» «out_end» «out_value») ⌝ }
+{
+    join_lists(
+        Admission::Every,
+        combiner,
+        starts,
+        ends,
+        values,
+        counts,
+        out_start,
+        out_end,
+        out_value,
+    )
+}
+
+// The full join: every point in at least one list, with the combiner over the values of the lists present.
+pub fn multiway_full_join(
+    combiner: u8,
+    starts: &[Point],
+    ends: &[Point],
+    values: &[i32],
+    counts: &[u32],
+    out_start: &mut [Point],
+    out_end: &mut [Point],
+    out_value: &mut [i64],
+) -> Answer
+    ensures { λ r. ⌜ leaves r (after «out_start» «out_end» «out_value»)
+        ≡ merging instants (full combiner) (given starts ends values counts) (before «out_start» «out_end» «out_value») ⌝ }
+{
+    join_lists(
+        Admission::Any,
+        combiner,
+        starts,
+        ends,
+        values,
+        counts,
+        out_start,
+        out_end,
+        out_value,
+    )
+}
