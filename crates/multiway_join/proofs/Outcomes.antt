@@ -34,9 +34,9 @@ use Rattle.multiway_join.specs.Passes.{lay-if, PutPieces, Joinable, of-n
 use Rattle.multiway_join.proofs.Columns.{if-nothing, if-keeps, merged-takes}
 use Rattle.multiway_join.proofs.Joins.{lists-formed, nothing-there}
 
--- what the form checker passes, by the kind that it was told
-pub formed-as : {P : Type 0} {w : Width P} {k : Kind} {l : Lent P} (o : Operation) → k ≡ kind-of o → Formed w k l → Formed w (kind-of o) l
-formed-as o e f = rw e at f
+-- what the form checker passes, by another name of the kind that it was told
+pub formed-as : {P : Type 0} {w : Width P} {k k' : Kind} {l : Lent P} → k ≡ k' → Formed w k l → Formed w k' l
+formed-as e f = rw e at f
 
 -- what is refused before a join runs
 pub refused : {P : Type 0} (w : Width P) (o : Operation) (l : Lent P) {k : Kind} {j : Judgement} → k ≡ kind-of o → j ≡ judge w k l → {a : Answer} (c : Merged P) → j ≡ Refused a → leaves a c ≡ merging w o l c
