@@ -51,8 +51,8 @@ module _ {P C R : Type 0} (w : Width P) (k : Kind) (l : Lent P) (rs : List R) (n
   abbrev out : Outcome C
   out = settle (judge w k l) (length rs) (least (n ∷ ns)) c after
 
-  fits : (m : ℕ) → out .answer ≡ Done m → length rs ≤ least (n ∷ ns)
-  fits m q =
+  all-fit : (m : ℕ) → out .answer ≡ Done m → length rs ≤ least (n ∷ ns)
+  all-fit m q =
       let g = given w k l (length rs) (least (n ∷ ns)) c after (Done m) .0 q in
       let h : least (n ∷ ns) < length rs → ⊥ = λ h. g .1 (NoRoom (length rs)) (omega arith) (h, refl) in
       omega arith
@@ -63,8 +63,8 @@ module _ {P C R : Type 0} (w : Width P) (k : Kind) (l : Lent P) (rs : List R) (n
       record {
         answer = λ room s a. subst (λ m. (out .answer ≡ a) ↔ Given w k l (length rs) m a) (least-exactly n ns room .1 s) (given w k l (length rs) (least (n ∷ ns)) c after a);
         refused = refused-keeps (length rs) (least (n ∷ ns)) c after (judge w k l);
-        written = λ m q i r h. subst (λ d. Row d i (getD rs i r)) (sym (done-writes w k l (length rs) (least (n ∷ ns)) c after m q)) (row (fits m q) i r h);
-        later = λ m q. subst (Later (length rs) c) (sym (done-writes w k l (length rs) (least (n ∷ ns)) c after m q)) (rest (fits m q));
+        written = λ m q i r h. subst (λ d. Row d i (getD rs i r)) (sym (done-writes w k l (length rs) (least (n ∷ ns)) c after m q)) (row (all-fit m q) i r h);
+        later = λ m q. subst (Later (length rs) c) (sym (done-writes w k l (length rs) (least (n ∷ ns)) c after m q)) (rest (all-fit m q));
       }
 
 -- one column with what f takes of each piece at its front

@@ -24,10 +24,10 @@ module _ {C : Type 0} (needed room : ℕ) (before after : C) where
   abbrev choice : Bool → Outcome C
   choice t = cond t (leaves (Done needed) after) (leaves (NoRoom needed) before)
 
-  lacks : room < needed → settle Sound needed room before after ≡ leaves (NoRoom needed) before
+  pub lacks : room < needed → settle Sound needed room before after ≡ leaves (NoRoom needed) before
   lacks h = ap choice (lt-leb needed room h)
 
-  fits : needed ≤ room → settle Sound needed room before after ≡ leaves (Done needed) after
+  pub fits : needed ≤ room → settle Sound needed room before after ≡ leaves (Done needed) after
   fits h = ap choice (le-leb needed room h)
 
   -- every refusal leaves the columns untouched
