@@ -21,7 +21,7 @@ pub record Right {A B : Type 0} (n : ℕ) (rule : List (Option A) → Option B) 
   pub points : (p : ℕ) → p < n → at xs p ≡ rule (column ls p)
   pub touching : Differ xs
 
--- whatever the values, so that a test decides whether two are equal
+-- over any values of which a test decides whether two are equal
 module _ {A B : Type 0} (test : B → B → Bool) (law : Decides test) (n : ℕ) (rule : List (Option A) → Option B) (ls : List (List (Piece A))) (wf : AllWellFormed n ls) where
   pub right : Right n rule ls (runs test rule n ls)
   right = let b = runs-below test law rule n ls wf in record { ascending = b .canonical .0; points = b .agrees; touching = b .canonical .1 }

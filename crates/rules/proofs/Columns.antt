@@ -4,7 +4,7 @@ use mathlib.Core.Path.{_≡_, refl, ap, _∙_}
 use mathlib.Core.List.{List, [], _∷_}
 use native.Mathlib.Omega.{arith}
 use native.Mathlib.Numerals.{add-one}
-use lib.IntN.{ℤ, pos}
+use lib.IntN.{pos}
 use lib.ListN.{length, getD, take, drop}
 use lib.Seq.{drop-cons}
 use Rattle.rules.specs.Lists.{Width, Lent, keys, range, ranges, cut, total, lists, tracks}

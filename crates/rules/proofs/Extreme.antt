@@ -1,6 +1,6 @@
 -- The extreme of some things: one of them, which no other is beyond. What picks it, two at a time, is known by that. Assumes nothing.
 use Prim.Native.Nat.{ℕ, min, _≤_}
-use mathlib.Core.Path.{_≡_, refl, sym, _∙_, subst}
+use mathlib.Core.Path.{_≡_, refl, sym, subst}
 use mathlib.Core.Logic.{_↔_, _⊎_, inl, inr, ⊎-elim}
 use mathlib.Core.List.{List, [], _∷_, List·Memᴰ, List·Memᴰ·head, List·Memᴰ·tail, List·Memᴰ·cases-cons, List·Memᴰ·not-nil}
 use native.Mathlib.Omega.{arith}
@@ -20,7 +20,7 @@ pub record Order {A : Type 0} (R : A → A → Type 0) : Type 0 where
 pub reversed : {A : Type 0} {R : A → A → Type 0} → Order R → Order (λ a b. R b a)
 reversed o = record { self = o .self; trans = λ a b c p q. o .trans c b a q p; both = λ a b p q. o .both a b q p }
 
--- r is x, which nothing of rest is beyond, or the rest's own m, which x is not beyond
+-- r is the better of x and m
 abbrev pub Better : {A : Type 0} → (A → A → Type 0) → A → A → A → Type 0
 Better R x m r = ((r ≡ x) × R m x) ⊎ ((r ≡ m) × R x m)
 

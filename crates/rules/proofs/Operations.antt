@@ -34,8 +34,8 @@ pub record Has {A : Type 0} (l : List A) (i : ℕ) (a : A) : Type 0 where
   pub within : i < length l
   pub there : (d : A) → getD l i d ≡ a
 
--- a column is as long as it was, and has from place n on what it had
-pub record Keeps {A : Type 0} (n : ℕ) (old new : List A) : Type 0 where
+-- a column is as long as it was, and from place n on has what it had
+pub record Unchanged {A : Type 0} (n : ℕ) (old new : List A) : Type 0 where
   pub long : length new ≡ length old
   pub rest : (i : ℕ) (d : A) → n ≤ i → getD new i d ≡ getD old i d
 
@@ -51,8 +51,8 @@ module _ {P C R : Type 0} (w : Width P) (k : Kind) (l : Lent P) (rs : List R) (n
   abbrev out : Outcome C
   out = settle (judge w k l) (length rs) (least (n ∷ ns)) c after
 
-  fits : (m : ℕ) → out .answer ≡ Done m → length rs ≤ least (n ∷ ns)
-  fits m q =
+  all-fit : (m : ℕ) → out .answer ≡ Done m → length rs ≤ least (n ∷ ns)
+  all-fit m q =
       let g = given w k l (length rs) (least (n ∷ ns)) c after (Done m) .0 q in
       let h : least (n ∷ ns) < length rs → ⊥ = λ h. g .1 (NoRoom (length rs)) (omega arith) (h, refl) in
       omega arith
@@ -63,8 +63,8 @@ module _ {P C R : Type 0} (w : Width P) (k : Kind) (l : Lent P) (rs : List R) (n
       record {
         answer = λ room s a. subst (λ m. (out .answer ≡ a) ↔ Given w k l (length rs) m a) (least-exactly n ns room .1 s) (given w k l (length rs) (least (n ∷ ns)) c after a);
         refused = refused-keeps (length rs) (least (n ∷ ns)) c after (judge w k l);
-        written = λ m q i r h. subst (λ d. Row d i (getD rs i r)) (sym (done-writes w k l (length rs) (least (n ∷ ns)) c after m q)) (row (fits m q) i r h);
-        later = λ m q. subst (Later (length rs) c) (sym (done-writes w k l (length rs) (least (n ∷ ns)) c after m q)) (rest (fits m q));
+        written = λ m q i r h. subst (λ d. Row d i (getD rs i r)) (sym (done-writes w k l (length rs) (least (n ∷ ns)) c after m q)) (row (all-fit m q) i r h);
+        later = λ m q. subst (Later (length rs) c) (sym (done-writes w k l (length rs) (least (n ∷ ns)) c after m q)) (rest (all-fit m q));
       }
 
 -- one column with what f takes of each piece at its front
@@ -74,7 +74,7 @@ module _ {A R : Type 0} (f : R → A) (rs : List R) (old : List A) (h : length r
       let e : 0 + i ≡ i = omega arith in
       record { within = omega (arith, laid-long f 0 rs old (omega arith)); there = λ d. ap (λ j. getD (front f rs old) j d) (sym e) ∙ laid-at f 0 rs old (omega arith) i d r l }
 
-  pub front-keeps : Keeps (length rs) old (front f rs old)
+  pub front-keeps : Unchanged (length rs) old (front f rs old)
   front-keeps = record { long = laid-long f 0 rs old (omega arith); rest = λ i d l. laid-after f 0 rs old (omega arith) i d (omega arith) }
 
 -- the rows of a many-way join or selection
@@ -82,7 +82,7 @@ abbrev pub MergedRow : {P : Type 0} → Width P → Merged P → ℕ → Range �
 MergedRow w c i x = Has (c .start) i (w .point (x .start)) × Has (c .end) i (w .point (x .end)) × Has (c .value) i (x .value)
 
 abbrev pub MergedLater : {P : Type 0} → ℕ → Merged P → Merged P → Type 0
-MergedLater n c d = Keeps n (c .start) (d .start) × Keeps n (c .end) (d .end) × Keeps n (c .value) (d .value)
+MergedLater n c d = Unchanged n (c .start) (d .start) × Unchanged n (c .end) (d .end) × Unchanged n (c .value) (d .value)
 
 -- the rows of a two-way operation, whose values are v by their places; a missing side is written as value 0 with its presence bit clear: bit 0 left, bit 1 right
 abbrev pub Sides : {P : Type 0} → (ℕ → ℤ) → Paired P → ℕ → Match → Type 0
@@ -95,15 +95,15 @@ abbrev pub PairRow : {P : Type 0} → Width P → (ℕ → ℤ) → Paired P →
 PairRow w v c i x = Has (c .start) i (w .point (x .start)) × Has (c .end) i (w .point (x .end)) × Sides v c i (x .value)
 
 abbrev pub PairsLater : {P : Type 0} → ℕ → Paired P → Paired P → Type 0
-PairsLater n c d = Keeps n (c .start) (d .start) × Keeps n (c .end) (d .end) × Keeps n (c .left) (d .left) × Keeps n (c .right) (d .right) × Keeps n (c .presence) (d .presence)
+PairsLater n c d = Unchanged n (c .start) (d .start) × Unchanged n (c .end) (d .end) × Unchanged n (c .left) (d .left) × Unchanged n (c .right) (d .right) × Unchanged n (c .presence) (d .presence)
 
--- the rows of the event listing: kind 0 for a start, and 1 for an end, which has no value
+-- the rows of the event listing: kind 0 for a start, and 1 for an end, whose value is 0
 abbrev pub EventRow : {P : Type 0} → Width P → Listed P → ℕ → Event ℤ → Type 0
 EventRow w c i (starts p k v) = Has (c .kind) i 0 × Has (c .point) i (w .point p) × Has (c .list) i k × Has (c .value) i v
 EventRow w c i (ends p k) = Has (c .kind) i 1 × Has (c .point) i (w .point p) × Has (c .list) i k × Has (c .value) i (pos 0)
 
 abbrev pub EventsLater : {P : Type 0} → ℕ → Listed P → Listed P → Type 0
-EventsLater n c d = Keeps n (c .kind) (d .kind) × Keeps n (c .point) (d .point) × Keeps n (c .list) (d .list) × Keeps n (c .value) (d .value)
+EventsLater n c d = Unchanged n (c .kind) (d .kind) × Unchanged n (c .point) (d .point) × Unchanged n (c .list) (d .list) × Unchanged n (c .value) (d .value)
 
 module _ {P : Type 0} (v : ℕ → ℤ) (c : Paired P) (i : ℕ) where
   sides : (m : Match) → Has (c .left) i (side-value v (m .0)) → Has (c .right) i (side-value v (m .1)) → Has (c .presence) i (presence m) → Sides v c i m

@@ -2,10 +2,7 @@
 use Prim.Native.Nat.{ℕ}
 use mathlib.Core.Path.{_≡_, refl}
 use lib.IntN.{ℤ}
-use Rattle.rules.specs.Lists.{Columns, Lent, given}
-use Rattle.rules.specs.Merged.{Merged}
-use Rattle.rules.specs.Paired.{Paired}
-use Rattle.rules.specs.Listed.{Listed}
+use Rattle.rules.specs.Lists.{Columns, given}
 use Rattle.rules.specs.Merged as merged-columns
 use Rattle.rules.specs.Paired as paired-columns
 use Rattle.rules.specs.Listed as listed-columns

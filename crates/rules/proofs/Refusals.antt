@@ -24,10 +24,10 @@ module _ {C : Type 0} (needed room : ℕ) (before after : C) where
   abbrev choice : Bool → Outcome C
   choice t = cond t (leaves (Done needed) after) (leaves (NoRoom needed) before)
 
-  lacks : room < needed → settle Sound needed room before after ≡ leaves (NoRoom needed) before
+  pub lacks : room < needed → settle Sound needed room before after ≡ leaves (NoRoom needed) before
   lacks h = ap choice (lt-leb needed room h)
 
-  fits : needed ≤ room → settle Sound needed room before after ≡ leaves (Done needed) after
+  pub fits : needed ≤ room → settle Sound needed room before after ≡ leaves (Done needed) after
   fits h = ap choice (le-leb needed room h)
 
   -- every refusal leaves the columns untouched
@@ -216,19 +216,23 @@ module _ {P : Type 0} (w : Width P) (k : Kind) (l : Lent P) where
   pub sound-exactly : ((i : ℕ) → i < length (l .ends) → keys w (l .ends) i < w .points) → (judge w k l ≡ Sound) ↔ Formed w k l
   sound-exactly low = (sound-formed low, formed-sound)
 
+-- a test of kinds that fails at k and passes at k'
+told-apart : (test : Kind → Bool) (k k' : Kind) → test k ≡ false → test k' ≡ true → (test k ≡ true) ↔ (k ≡ k')
+told-apart test k k' p q = (λ h. absurd (false≢true (sym p ∙ h)), λ e. ap test e ∙ q)
+
 -- code 2 can be due for two-way operations alone, and code 7 for joins whose combiner is not known
 pub two-way-exactly : (k : Kind) → (two-way k ≡ true) ↔ (k ≡ TwoWay)
-two-way-exactly Listing = (λ q. absurd (false≢true q), λ q. ap two-way q)
+two-way-exactly Listing = told-apart two-way Listing TwoWay refl refl
 two-way-exactly TwoWay = (λ q. refl, λ q. refl)
-two-way-exactly (Join known) = (λ q. absurd (false≢true q), λ q. ap two-way q)
-two-way-exactly Selection = (λ q. absurd (false≢true q), λ q. ap two-way q)
+two-way-exactly (Join known) = told-apart two-way (Join known) TwoWay refl refl
+two-way-exactly Selection = told-apart two-way Selection TwoWay refl refl
 
 pub unknown-exactly : (k : Kind) → (unknown-combiner k ≡ true) ↔ (k ≡ Join false)
-unknown-exactly Listing = (λ q. absurd (false≢true q), λ q. ap unknown-combiner q)
-unknown-exactly TwoWay = (λ q. absurd (false≢true q), λ q. ap unknown-combiner q)
-unknown-exactly (Join true) = (λ q. absurd (false≢true q), λ q. ap unknown-combiner q)
+unknown-exactly Listing = told-apart unknown-combiner Listing (Join false) refl refl
+unknown-exactly TwoWay = told-apart unknown-combiner TwoWay (Join false) refl refl
+unknown-exactly (Join true) = told-apart unknown-combiner (Join true) (Join false) refl refl
 unknown-exactly (Join false) = (λ q. refl, λ q. refl)
-unknown-exactly Selection = (λ q. absurd (false≢true q), λ q. ap unknown-combiner q)
+unknown-exactly Selection = told-apart unknown-combiner Selection (Join false) refl refl
 
 -- two answers that conform to one outcome are equal
 pub determined : {C : Type 0} (o o' e : Outcome C) → o ≡ e → o' ≡ e → (o .answer ≡ o' .answer) × (o .columns ≡ o' .columns)

@@ -1,12 +1,11 @@
 -- Two-way operations: what each cuts and keeps, and that values alter no start, end or presence. Assumes nothing.
 use Prim.Native.Nat.{ℕ, _+_, _-_, _≤_, _<_, min}
 use mathlib.Core.Path.{_≡_, refl, sym, _∙_, ap}
-use mathlib.Core.Logic.{_↔_, _⊎_, inl, inr}
+use mathlib.Core.Logic.{_↔_, _⊎_, inl, inr, ⊎-elim}
 use mathlib.Core.Bool.{Bool, true, false, cond, true≢false, false≢true}
 use mathlib.Core.Option.{Option, none, some}
 use mathlib.Core.List.{List, [], _∷_}
 use native.Mathlib.Omega.{arith}
-use lib.Dec.{leb}
 use lib.IntN.{ℤ, pos}
 use lib.ListN.{length, getD, length-append, length-map, length-take, length-drop}
 use Rattle.rules.specs.Piece.{Piece, at, Within, WellFormed, Apart, Differ}
@@ -19,13 +18,13 @@ use Rattle.rules.specs.TwoWay.{Match, keeps, pair-rule, same-match, pair
 use Rattle.rules.specs.Paired.{Paired, room, lay}
 use Rattle.rules.specs.Outcomes.{pairing}
 use Rattle.rules.specs.Proving.Below.{Below}
-use Rattle.rules.specs.declared.Answer.the-variants.{Done, NoRoom}
 use Rattle.rules.specs.declared.Judgement.{Judgement}
 use Rattle.rules.specs.declared.Judgement.the-variants.{Sound, Refused}
 use Rattle.rules.specs.declared.Kind.the-variants.{TwoWay}
 use Rattle.rules.proofs.At.{at-in, at-before, at-after, at-early, le-or-lt}
 use Rattle.rules.proofs.Same.{none≢some, decides-match}
 use Rattle.rules.proofs.Present.{Something, there-exactly}
+use Rattle.rules.proofs.Refusals.{lacks, fits}
 use Rattle.rules.proofs.Runs.{runs-below, runs-only}
 
 module _ (o : Pairing) (n : ℕ) (l r : List (Piece ℕ)) (u : WellFormed n l) (w : WellFormed n r) where
@@ -174,13 +173,16 @@ laid-length : {A R : Type 0} (n : ℕ) (f : R → A) (xs : List R) (l : List A) 
 laid-length n f xs l = simp (length-append, length-take, length-map, length-drop)
 
 module _ {P : Type 0} where
+  alike-by : {x y x' y' : Outcome (Paired P)} → x ≡ y → x' ≡ y' → AlikeOutcomes y y' → AlikeOutcomes x x'
+  alike-by p q r = rw (p, q) r
+
   settle-alike : (j : Judgement) (needed room : ℕ) (b b' a a' : Paired P) → Alike b b' → Alike a a' → AlikeOutcomes (settle j needed room b a) (settle j needed room b' a')
   settle-alike (Refused x) needed room b b' a a' h k = record { answer = refl; columns = h }
-  settle-alike Sound needed room b b' a a' h k = go (leb needed room)
-    where
-      go : (t : Bool) → AlikeOutcomes (cond t (record { answer = Done needed; columns = a }) (record { answer = NoRoom needed; columns = b })) (cond t (record { answer = Done needed; columns = a' }) (record { answer = NoRoom needed; columns = b' }))
-      go true = record { answer = refl; columns = k }
-      go false = record { answer = refl; columns = h }
+  settle-alike Sound needed room b b' a a' h k =
+      ⊎-elim
+      (λ l. alike-by (fits needed room b a l) (fits needed room b' a' l) (record { answer = refl; columns = k }))
+      (λ l. alike-by (lacks needed room b a l) (lacks needed room b' a' l) (record { answer = refl; columns = h }))
+      (le-or-lt needed room)
 
   module _ (w : Width P) where
     lay-alike : (v v' : ℕ → ℤ) (xs : List (Piece Match)) (c c' : Paired P) → Alike c c' → Alike (lay w v 0 xs c) (lay w v' 0 xs c')
