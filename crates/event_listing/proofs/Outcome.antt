@@ -14,8 +14,9 @@ use Rattle.rules.specs.declared.Judgement.{Judgement}
 use Rattle.rules.specs.declared.Judgement.the-variants.{Sound, Refused}
 use Rattle.rules.specs.declared.Kind.the-variants.{Listing}
 use Rattle.form.specs.Shape.{Judged}
-use Rattle.event_listing.specs.Listing.{events-of, Listable, Wrote}
-use Rattle.event_listing.proofs.Rows.{events-count}
+use Rattle.multiway_sweep.specs.Begins.{events-of}
+use Rattle.multiway_sweep.proofs.Begun.{events-count}
+use Rattle.event_listing.specs.Listing.{Listable, Wrote}
 
 module _ {P : Type 0} (w : Width P) (l : Lent P) {f : Judgement} (judged : Judged w Listing l f) where
   pub refused : {a : Answer} {c : Listed P} → f ≡ Refused a → leaves a c ≡ listing w l c
@@ -31,7 +32,7 @@ module _ {P : Type 0} (w : Width P) (l : Lent P) {f : Judgement} (judged : Judge
     needed = 2 * length (l .starts)
 
     count : length (events-of w l) ≡ needed
-    count = events-count w l (judged .passes q .agree)
+    count = events-count (judged .passes q)
 
     module _ (c : Listed P) {m : ℕ} (r : m ≡ room c) where
       pub no-room : m < needed → leaves (NoRoom needed) c ≡ listing w l c

@@ -1,29 +1,28 @@
 -- Events written at the front of columns, one after the other. Assumes nothing.
-use Prim.Native.Nat.{ℕ, suc, _+_, _*_, _≤_, _<_}
+use Prim.Native.Nat.{ℕ, suc, _+_, _≤_, _<_}
 use mathlib.Core.Path.{_≡_, refl, sym, ap, _∙_}
 use mathlib.Core.List.{List, [], _∷_}
 use native.Mathlib.Omega.{arith}
-use lib.IntN.{ℤ, pos}
-use lib.ListN.{length, getD, take, drop, set, length-take, take-append-drop}
+use lib.IntN.{ℤ}
+use lib.ListN.{length, take, drop, set, length-take, take-append-drop}
 use lib.Seq.{take-all}
 use Rattle.heap.specs.Heap.{entries-of, Whole}
 use Rattle.rules.specs.Piece.{Piece, AllWellFormed}
-use Rattle.rules.specs.Lists.{Width, Lent, keys, lists}
+use Rattle.rules.specs.Lists.{Width, Lent, lists}
 use Rattle.rules.specs.Answer.{laid}
 use Rattle.rules.specs.Sweep.{Event, point, kind, list, own, listed, events, All}
 use Rattle.rules.specs.Listed.{Listed, event-value, lengths, room, lay}
-use Rattle.rules.specs.Refusals.{Agree}
 use Rattle.rules.specs.Proving.Long.{Long}
-use Rattle.rules.proofs.Columns.{lists-length, lists-size}
-use Rattle.rules.proofs.Faults.{formed-values}
+use Rattle.rules.proofs.Columns.{lists-length}
 use Rattle.rules.proofs.Fronts.{drop-lt, drop-more, drop-none, laid-long, laid-more, laid-nothing, same-room}
-use Rattle.rules.proofs.Sweep.{all-both, all-append, all-right, all-sort, own-list, own-point, events-length}
+use Rattle.rules.proofs.Sweep.{all-both, all-append, all-right, all-sort, own-list, own-point}
 use Rattle.multiway_sweep.specs.Steps.{Arrays, reads, sizes-after, On, Sweeping, Took, Holds}
-use Rattle.multiway_sweep.specs.Begins.{Fills}
+use Rattle.multiway_sweep.specs.Begins.{events-of, Fills}
 use Rattle.multiway_sweep.specs.declared.Sizes.{Sizes}
 use Rattle.multiway_sweep.specs.declared.Step.{Step}
+use Rattle.multiway_sweep.proofs.Begun.{lists-formed, events-few, begun}
 use Rattle.multiway_sweep.proofs.Sorts.{on-step}
-use Rattle.event_listing.specs.Listing.{RowOf, events-of, Writable, PutRow, Listable, Wrote}
+use Rattle.event_listing.specs.Listing.{RowOf, Writable, PutRow, Listable, Wrote}
 use Rattle.event_listing.specs.declared.Row.{Row}
 
 module _ {A : Type 0} where
@@ -38,10 +37,6 @@ module _ {A : Type 0} where
   events-small : (n : ℕ) (ls : List (List (Piece A))) → AllWellFormed n ls → All (Small n (length ls)) (events ls)
   unfolding events
   events-small n ls w = all-sort _ (listed 0 ls) (listed-small 0 n (length ls) ls w (omega arith))
-
--- n ranges give 2n events
-pub events-count : {P : Type 0} (w : Width P) (l : Lent P) → Agree l → length (events-of w l) ≡ 2 * length (l .starts)
-events-count w l g = events-length (lists w l) ∙ ap (λ n. 2 * n) (lists-size w l ∙ g .adds-up)
 
 -- n events are written, and a sweep stands before the rest
 pub record Written {P : Type 0} (w : Width P) (l : Lent P) (c d : Listed P) (a : Arrays) (z : Sizes) (n : ℕ) : Type 0 where
@@ -58,13 +53,8 @@ pub taken : {P : Type 0} {w : Width P} {l : Lent P} {b : Arrays} {n : ℕ} {t s 
 taken e k j h o = rw (e, k) (record { holds = rw j at h; row = o })
 
 module _ {P : Type 0} {w : Width P} {l : Lent P} {c : Listed P} where
-  lists-formed : Listable w l c → AllWellFormed (w .points) (lists w l)
-  lists-formed g = formed-values (keys w (l .starts)) (keys w (l .ends)) (λ i. i) (λ i. getD (l .values) i (pos 0)) (w .points) 0 (l .counts) (g .formed .formed)
-
   pub written-none : Listable w l c → {cursors start-keys start-lists end-keys end-lists : List ℕ} {z : Sizes} → Fills w (l .starts) (l .counts) cursors start-keys start-lists z → Whole (entries-of end-keys end-lists) → Written w l c c (record { cursors = cursors; start-keys = start-keys; start-lists = start-lists; end-keys = end-keys; end-lists = end-lists }) z 0
-  written-none g f whole =
-      let a = g .formed .agree in
-      record { listable = g; sweeping = f _ _ whole (l .ends) (l .values) (sym (a .values-long)) (a .ends-long ∙ sym (a .values-long)) (lists-formed g); written = refl }
+  written-none g f whole = record { listable = g; sweeping = begun (g .formed) (f _ _ whole); written = refl }
 
   module _ {d : Listed P} {a : Arrays} {z : Sizes} {n : ℕ} (f : Written w l c d a z n) where
     -- the columns keep their lengths
@@ -95,7 +85,7 @@ module _ {P : Type 0} {w : Width P} {l : Lent P} {c : Listed P} where
       written-lt = drop-lt (events-of w l) n e (s .0) (s .1)
 
       small : Small (w .points) (length (lists w l)) e
-      small = all-right (Small (w .points) (length (lists w l))) (take n (events-of w l)) (e ∷ s .0) (rw (sym (s .1), take-append-drop n (events-of w l)) (events-small (w .points) (lists w l) (lists-formed (f .listable)))) .0
+      small = all-right (Small (w .points) (length (lists w l))) (take n (events-of w l)) (e ∷ s .0) (rw (sym (s .1), take-append-drop n (events-of w l)) (events-small (w .points) (lists w l) (lists-formed (f .listable .formed)))) .0
 
       pub written-list : list e < 256
       written-list = omega (arith, small .1, lists-length w l, f .listable .formed .lists-few)
@@ -130,7 +120,7 @@ module _ {P : Type 0} {w : Width P} {l : Lent P} {c : Listed P} where
       taken-lt = with-event (λ e u p. written-lt u)
 
       pub taken-few : n < 4096
-      taken-few = omega (arith, taken-lt, events-count w l (f .listable .formed .agree), f .listable .formed .ranges-few)
+      taken-few = omega (arith, taken-lt, events-few (f .listable .formed))
 
       pub taken-row : Writable w n r d
       taken-row = with-event (λ e u p. written-row u p)

@@ -1,14 +1,14 @@
 -- What the contracts of the event listing say of columns: the events stand at their front. Assumes nothing.
 use Prim.Native.Nat.{ℕ, _≤_, _<_}
 use mathlib.Core.Path.{_≡_}
-use mathlib.Core.List.{List}
 use lib.IntN.{ℤ}
 use lib.ListN.{length, set}
-use Rattle.rules.specs.Lists.{Width, Lent, lists}
+use Rattle.rules.specs.Lists.{Width, Lent}
 use Rattle.rules.specs.Refusals.{Formed}
-use Rattle.rules.specs.Sweep.{Event, point, kind, list, events}
+use Rattle.rules.specs.Sweep.{Event, point, kind, list}
 use Rattle.rules.specs.Listed.{Listed, event-value, room, lay}
 use Rattle.rules.specs.declared.Kind.the-variants.{Listing}
+use Rattle.multiway_sweep.specs.Begins.{events-of}
 use Rattle.event_listing.specs.declared.Row.{Row}
 
 -- the row of an event
@@ -19,10 +19,6 @@ pub record RowOf (e : Event ℤ) (r : Row) : Type 0 where
   pub value : r .value ≡ event-value e
 
 module _ {P : Type 0} (w : Width P) where
-  -- the events of the lists
-  abbrev pub events-of : Lent P → List (Event ℤ)
-  events-of l = events (lists w l)
-
   -- there is a place n for a row, whose point can be written
   pub record Writable (n : ℕ) (r : Row) (c : Listed P) : Type 0 where
     pub place : n < room c
@@ -38,8 +34,8 @@ module _ {P : Type 0} (w : Width P) where
   -- lists that the form checker passes, and room for their events
   pub record Listable (l : Lent P) (c : Listed P) : Type 0 where
     pub formed : Formed w Listing l
-    pub enough : length (events-of l) ≤ room c
+    pub enough : length (events-of w l) ≤ room c
 
   -- all events are written
   pub record Wrote (l : Lent P) (c d : Listed P) : Type 0 where
-    pub is : d ≡ lay w 0 (events-of l) c
+    pub is : d ≡ lay w 0 (events-of w l) c

@@ -9,7 +9,7 @@ use mir.Syntax.{w32}
 use Rattle.integer.proofs.Laws.{back}
 use Rattle.rules.specs.Lists.{seats, lent}
 use Rattle.multiway_sweep.specs.Steps.{Arrays}
-use Rattle.event_listing.specs.Listing.{events-of}
+use Rattle.multiway_sweep.specs.Begins.{events-of}
 use Rattle.event_listing.proofs.Rows.{Written, Taken, written-none, written-long, written-last, written-list, taken, taken-lt, taken-few, taken-row, taken-more}
 use Rattle.event_listing_seat.proofs.write_events.Statement.{statement}
 use Rattle.event_listing_seat.proofs.write_events.Tie as tie
