@@ -35,13 +35,13 @@ join-lists-spec =
     let t : tie.Then1 = search in
     let e : tie.After-enum-told = search in
     let j = judged e in
-    joined-none instants _ _ (formed-as _ (ap JoinKind (known j .known .ensures)) (j .judge .ensures .passes (e .enum-told .given .1))) (t .if1 .taken) _ (n .of-none .ensures))
+    joined-none instants _ _ (formed-as (ap JoinKind (known j .known .ensures)) (j .judge .ensures .passes (e .enum-told .given .1))) (t .if1 .taken) _ (n .of-none .ensures))
     -- there are some
     (λ c κs.
     let t : tie.Else1 = search in
     let e : tie.After-enum-told = search in
     let j = judged e in
-    (formed-as _ (ap JoinKind (known j .known .ensures)) (j .judge .ensures .passes (e .enum-told .given .1)), omega (arith, t .if1 .left)))
+    (formed-as (ap JoinKind (known j .known .ensures)) (j .judge .ensures .passes (e .enum-told .given .1)), omega (arith, t .if1 .left)))
     (λ c. search needs)
     (λ c. search needs)
     (λ c. search needs)
