@@ -1,3 +1,5 @@
+// The operations over lent columns of instants as C functions: an answer's code comes back, and its number is written.
+
 use event_listing_instant::list_events;
 use integer::instant::Point;
 use multiway_join_instant::multiway_full_join;
@@ -7,14 +9,15 @@ use rules::number as number_of;
 use two_way_join_instant::full_join;
 use two_way_join_instant::inner_join;
 use two_way_join_instant::left_join;
-ghost use Rattle.rules.specs.Lists.{instants, lent};
+ghost use Rattle.rules.specs.Lists.{instants, given};
 ghost use Rattle.rules.specs.Said.{Said};
-ghost use Rattle.rules.specs.TwoWay.{inner, left, full};
-ghost use Rattle.rules.specs.Outcomes.{pairing, listing, merging};
-ghost use Rattle.rules.specs.Outcomes as joins;
-ghost use Rattle.two_way.specs.Columns.{columns};
-ghost use Rattle.event_listing.specs.Listing.{columns as listed};
-ghost use Rattle.multiway_join.specs.Pieces.{output};
+ghost use Rattle.rules.specs.Listed as listed;
+ghost use Rattle.rules.specs.Paired as paired;
+ghost use Rattle.rules.specs.Merged as merged;
+ghost use Rattle.rules.specs.Outcomes.{pairing, listing};
+ghost use Rattle.rules.specs.declared.Pairing.the-variants.{Inner, Left, Full};
+ghost use Rattle.many_way_rules.specs.Operations.{inner, full};
+ghost use Rattle.many_way_rules.specs.Outcomes.{merging};
 
 #[no_mangle]
 pub extern "C" fn guineatwirl_instant_list_events(
@@ -29,10 +32,9 @@ pub extern "C" fn guineatwirl_instant_list_events(
     number: &mut u64,
 ) -> u8
     ensures { λ r.
-        let l = lent (now (starts .entry)) (now (ends .entry)) (now (values .entry)) (now (counts .entry)) in
-        let c = listed (now («out_kind» .entry)) (now («out_point» .entry)) (now («out_list» .entry)) (now («out_value» .entry)) in
-        let d = listed (now («out_kind» .exit)) (now («out_point» .exit)) (now («out_list» .exit)) (now («out_value» .exit)) in
-        ⌜ Said (listing instants l c) r (now (number .exit)) d ⌝ }
+        let c = listed.before «out_kind» «out_point» «out_list» «out_value» in
+        let d = listed.after «out_kind» «out_point» «out_list» «out_value» in
+        ⌜ Said (listing instants (given starts ends values counts) c) r (now (number .exit)) d ⌝ }
 {
     let answer = list_events(
         starts,
@@ -62,10 +64,9 @@ pub extern "C" fn guineatwirl_instant_inner_join(
     number: &mut u64,
 ) -> u8
     ensures { λ r.
-        let l = lent (now (starts .entry)) (now (ends .entry)) (now (values .entry)) (now (counts .entry)) in
-        let c = columns (now («out_start» .entry)) (now («out_end» .entry)) (now («out_left» .entry)) (now («out_right» .entry)) (now («out_presence» .entry)) in
-        let d = columns (now («out_start» .exit)) (now («out_end» .exit)) (now («out_left» .exit)) (now («out_right» .exit)) (now («out_presence» .exit)) in
-        ⌜ Said (pairing instants inner l c) r (now (number .exit)) d ⌝ }
+        let c = paired.before «out_start» «out_end» «out_left» «out_right» «out_presence» in
+        let d = paired.after «out_start» «out_end» «out_left» «out_right» «out_presence» in
+        ⌜ Said (pairing instants Inner (given starts ends values counts) c) r (now (number .exit)) d ⌝ }
 {
     let answer = inner_join(
         starts,
@@ -96,10 +97,9 @@ pub extern "C" fn guineatwirl_instant_left_join(
     number: &mut u64,
 ) -> u8
     ensures { λ r.
-        let l = lent (now (starts .entry)) (now (ends .entry)) (now (values .entry)) (now (counts .entry)) in
-        let c = columns (now («out_start» .entry)) (now («out_end» .entry)) (now («out_left» .entry)) (now («out_right» .entry)) (now («out_presence» .entry)) in
-        let d = columns (now («out_start» .exit)) (now («out_end» .exit)) (now («out_left» .exit)) (now («out_right» .exit)) (now («out_presence» .exit)) in
-        ⌜ Said (pairing instants left l c) r (now (number .exit)) d ⌝ }
+        let c = paired.before «out_start» «out_end» «out_left» «out_right» «out_presence» in
+        let d = paired.after «out_start» «out_end» «out_left» «out_right» «out_presence» in
+        ⌜ Said (pairing instants Left (given starts ends values counts) c) r (now (number .exit)) d ⌝ }
 {
     let answer = left_join(
         starts,
@@ -130,10 +130,9 @@ pub extern "C" fn guineatwirl_instant_full_join(
     number: &mut u64,
 ) -> u8
     ensures { λ r.
-        let l = lent (now (starts .entry)) (now (ends .entry)) (now (values .entry)) (now (counts .entry)) in
-        let c = columns (now («out_start» .entry)) (now («out_end» .entry)) (now («out_left» .entry)) (now («out_right» .entry)) (now («out_presence» .entry)) in
-        let d = columns (now («out_start» .exit)) (now («out_end» .exit)) (now («out_left» .exit)) (now («out_right» .exit)) (now («out_presence» .exit)) in
-        ⌜ Said (pairing instants full l c) r (now (number .exit)) d ⌝ }
+        let c = paired.before «out_start» «out_end» «out_left» «out_right» «out_presence» in
+        let d = paired.after «out_start» «out_end» «out_left» «out_right» «out_presence» in
+        ⌜ Said (pairing instants Full (given starts ends values counts) c) r (now (number .exit)) d ⌝ }
 {
     let answer = full_join(
         starts,
@@ -163,10 +162,9 @@ pub extern "C" fn guineatwirl_instant_multiway_inner_join(
     number: &mut u64,
 ) -> u8
     ensures { λ r.
-        let l = lent (now (starts .entry)) (now (ends .entry)) (now (values .entry)) (now (counts .entry)) in
-        let c = output (now («out_start» .entry)) (now («out_end» .entry)) (now («out_value» .entry)) in
-        let d = output (now («out_start» .exit)) (now («out_end» .exit)) (now («out_value» .exit)) in
-        ⌜ Said (merging instants (joins.inner combiner) l c) r (now (number .exit)) d ⌝ }
+        let c = merged.before «out_start» «out_end» «out_value» in
+        let d = merged.after «out_start» «out_end» «out_value» in
+        ⌜ Said (merging instants (inner combiner) (given starts ends values counts) c) r (now (number .exit)) d ⌝ }
 {
     let answer = multiway_inner_join(
         combiner,
@@ -195,10 +193,9 @@ pub extern "C" fn guineatwirl_instant_multiway_full_join(
     number: &mut u64,
 ) -> u8
     ensures { λ r.
-        let l = lent (now (starts .entry)) (now (ends .entry)) (now (values .entry)) (now (counts .entry)) in
-        let c = output (now («out_start» .entry)) (now («out_end» .entry)) (now («out_value» .entry)) in
-        let d = output (now («out_start» .exit)) (now («out_end» .exit)) (now («out_value» .exit)) in
-        ⌜ Said (merging instants (joins.full combiner) l c) r (now (number .exit)) d ⌝ }
+        let c = merged.before «out_start» «out_end» «out_value» in
+        let d = merged.after «out_start» «out_end» «out_value» in
+        ⌜ Said (merging instants (full combiner) (given starts ends values counts) c) r (now (number .exit)) d ⌝ }
 {
     let answer = multiway_full_join(
         combiner,

@@ -1,19 +1,15 @@
 -- What the contracts of the event listing say of columns: the events stand at their front. Assumes nothing.
 use Prim.Native.Nat.{ℕ, _≤_, _<_}
 use mathlib.Core.Path.{_≡_}
-use mathlib.Core.List.{List}
 use lib.IntN.{ℤ}
 use lib.ListN.{length, set}
-use Rattle.rules.specs.Piece.{AllWellFormed}
-use Rattle.rules.specs.Lists.{Width, Lent, lists}
-use Rattle.rules.specs.Refusals.{Agree}
-use Rattle.rules.specs.Sweep.{Event, point, kind, list, events}
-use Rattle.rules.specs.Outcomes.{Listed, event-value, listed-room, lay-listed}
+use Rattle.rules.specs.Lists.{Width, Lent}
+use Rattle.rules.specs.Refusals.{Formed}
+use Rattle.rules.specs.Sweep.{Event, point, kind, list}
+use Rattle.rules.specs.Listed.{Listed, event-value, room, lay}
+use Rattle.rules.specs.declared.Kind.the-variants.{Listing}
+use Rattle.multiway_sweep.specs.Begins.{events-of}
 use Rattle.event_listing.specs.declared.Row.{Row}
-
--- the four columns
-abbrev pub columns : {P : Type 0} → List ℕ → List P → List ℕ → List ℤ → Listed P
-columns k p l v = record { kind = k; point = p; list = l; value = v }
 
 -- the row of an event
 pub record RowOf (e : Event ℤ) (r : Row) : Type 0 where
@@ -23,27 +19,23 @@ pub record RowOf (e : Event ℤ) (r : Row) : Type 0 where
   pub value : r .value ≡ event-value e
 
 module _ {P : Type 0} (w : Width P) where
-  -- the events of the lists
-  abbrev pub all : Lent P → List (Event ℤ)
-  all l = events (lists w l)
-
-  -- there is a place for a row, whose point can be written
+  -- there is a place n for a row, whose point can be written
   pub record Writable (n : ℕ) (r : Row) (c : Listed P) : Type 0 where
-    pub room : n < listed-room w c
+    pub place : n < room c
     pub point : r .key < w .points
 
   -- the columns with a row at place n
-  pub record Put (n : ℕ) (r : Row) (c d : Listed P) : Type 0 where
-    pub is : d ≡ columns (set (c .kind) n (r .kind)) (set (c .point) n (w .point (r .key))) (set (c .list) n (r .list)) (set (c .value) n (r .value))
+  pub record PutRow (n : ℕ) (r : Row) (c d : Listed P) : Type 0 where
+    pub kind : d .kind ≡ set (c .kind) n (r .kind)
+    pub point : d .point ≡ set (c .point) n (w .point (r .key))
+    pub list : d .list ≡ set (c .list) n (r .list)
+    pub value : d .value ≡ set (c .value) n (r .value)
 
-  -- lists that are judged sound, and room for their events
+  -- lists that the form checker passes, and room for their events
   pub record Listable (l : Lent P) (c : Listed P) : Type 0 where
-    pub lists-few : length (l .counts) ≤ 16
-    pub ranges-few : length (l .starts) ≤ 2048
-    pub agree : Agree l
-    pub formed : AllWellFormed (w .points) (lists w l)
-    pub room : length (all l) ≤ listed-room w c
+    pub formed : Formed w Listing l
+    pub enough : length (events-of w l) ≤ room c
 
   -- all events are written
   pub record Wrote (l : Lent P) (c d : Listed P) : Type 0 where
-    pub is : d ≡ lay-listed w (all l) c
+    pub is : d ≡ lay w 0 (events-of w l) c

@@ -1,4 +1,4 @@
-// The event listing: every start and end of the lists' ranges, in the order of the sweep.
+// The event listing: every start and end of the lists' ranges, in the order of the sweep; here an event's row.
 
 use multiway_sweep::Range;
 use rules::shorter;
@@ -15,6 +15,7 @@ pub struct Row {
     pub value: i32,
 }
 
+// The row of a start.
 pub fn start_row(range: Range, list: usize, value: i32) -> Row
     requires { ⌜ list < 256 ⌝ }
     ensures { λ r. ⌜ RowOf (starts (range .start) list value) r ⌝ }
@@ -27,6 +28,7 @@ pub fn start_row(range: Range, list: usize, value: i32) -> Row
     }
 }
 
+// The row of an end.
 pub fn end_row(key: u64, list: usize) -> Row
     requires { ⌜ list < 256 ⌝ }
     ensures { λ r. ⌜ RowOf (ends key list) r ⌝ }

@@ -1,37 +1,38 @@
--- Condition 3: a many-way join or selection writes ascending pieces that hold exactly the points its rule admits, each with its rule's value, and touching pieces differ. So two write the same list exactly when their rules agree at every point, however the lists were cut up. Assumes nothing.
+-- Condition 3, of any rule: ascending pieces that hold exactly the points the rule admits, each with the rule's value, and touching pieces differ. So two rules give the same list exactly when they agree at every point, however the lists were cut up. Assumes nothing.
 use Prim.Native.Nat.{ℕ, _+_, _≤_, _<_}
 use mathlib.Core.Path.{_≡_, sym, _∙_, ap}
 use mathlib.Core.Logic.{_⊎_, inl, inr, _↔_}
+use mathlib.Core.Bool.{Bool}
+use mathlib.Core.Option.{Option}
 use mathlib.Core.List.{List, [], _∷_, _++_}
 use native.Mathlib.Omega.{arith}
 use Rattle.rules.specs.Piece.{Piece, Range, at, column, Within, Differ, AllWellFormed}
-use Rattle.rules.specs.Same.{eqℤ}
+use Rattle.rules.specs.Same.{eqℤ, Decides}
+use Rattle.rules.specs.Runs.{runs}
 use Rattle.many_way_rules.specs.Operations.{rule-of, merged}
 use Rattle.many_way_rules.specs.declared.Operation.{Operation}
 use Rattle.rules.proofs.At.{at-in, at-before, at-after, at-tail, le-or-lt}
 use Rattle.rules.proofs.Runs.{runs-below, runs-only, runs-same}
 use Rattle.rules.proofs.Same.{decides-ℤ}
 
--- over a line of n points
-pub record Right (n : ℕ) (o : Operation) (ls : List (List Range)) (xs : List Range) : Type 0 where
+-- xs is what a rule says of some lists over a line of n points
+pub record Right {A B : Type 0} (n : ℕ) (rule : List (Option A) → Option B) (ls : List (List (Piece A))) (xs : List (Piece B)) : Type 0 where
   pub ascending : Within 0 n xs
-  pub points : (p : ℕ) → p < n → at xs p ≡ rule-of o (column ls p)
+  pub points : (p : ℕ) → p < n → at xs p ≡ rule (column ls p)
   pub touching : Differ xs
 
-module _ (n : ℕ) (o : Operation) (ls : List (List Range)) (wf : AllWellFormed n ls) where
-  pub merged-right : Right n o ls (merged o n ls)
-  unfolding merged
-  merged-right = let b = runs-below eqℤ decides-ℤ (rule-of o) n ls wf in record { ascending = b .canonical .0; points = b .agrees; touching = b .canonical .1 }
+-- over any values of which a test decides whether two are equal
+module _ {A B : Type 0} (test : B → B → Bool) (law : Decides test) (n : ℕ) (rule : List (Option A) → Option B) (ls : List (List (Piece A))) (wf : AllWellFormed n ls) where
+  pub right : Right n rule ls (runs test rule n ls)
+  right = let b = runs-below test law rule n ls wf in record { ascending = b .canonical .0; points = b .agrees; touching = b .canonical .1 }
 
   -- and no other list is
-  pub merged-only : (xs : List Range) → Right n o ls xs → xs ≡ merged o n ls
-  unfolding merged
-  merged-only xs r = runs-only eqℤ decides-ℤ (rule-of o) n ls wf xs (record { canonical = (r .ascending, r .touching); agrees = r .points })
+  pub only : (xs : List (Piece B)) → Right n rule ls xs → xs ≡ runs test rule n ls
+  only xs r = runs-only test law rule n ls wf xs (record { canonical = (r .ascending, r .touching); agrees = r .points })
 
-  -- whatever the two operations, lists and numbers of lists
-  pub merged-same : (o' : Operation) (ls' : List (List Range)) → AllWellFormed n ls' → (merged o n ls ≡ merged o' n ls') ↔ ((p : ℕ) → p < n → rule-of o (column ls p) ≡ rule-of o' (column ls' p))
-  unfolding merged
-  merged-same o' ls' wf' = runs-same eqℤ decides-ℤ n (rule-of o) ls wf (rule-of o') ls' wf'
+  -- whatever the two rules, lists, what the lists have and the numbers of lists
+  pub same : {C : Type 0} (rule' : List (Option C) → Option B) (ls' : List (List (Piece C))) → AllWellFormed n ls' → (runs test rule n ls ≡ runs test rule' n ls') ↔ ((p : ℕ) → p < n → rule (column ls p) ≡ rule' (column ls' p))
+  same rule' ls' wf' = runs-same test law n rule ls wf rule' ls' wf'
 
 -- a range cut in two after its point m, the same value on both sides
 module _ {A : Type 0} (x : Piece A) (m : ℕ) where
@@ -73,10 +74,25 @@ module _ {A : Type 0} (x : Piece A) (m : ℕ) (low : x .start ≤ m) (high : m <
       cut-formed n [] w = (cut-within 0 n xs (w .0), w .1)
       cut-formed n (l ∷ ls) w = (w .0, cut-formed n ls (w .1))
 
--- the list that is cut stands above some lists and below others; its range x stands between xs and ys
+      -- the list that is cut stands above some lists and below others; its range x stands between xs and ys
+      pub cut : {B : Type 0} (test : B → B → Bool) → Decides test → (n : ℕ) (rule : List (Option A) → Option B) (below : List (List (Piece A))) → AllWellFormed n (below ++ (xs ++ x ∷ ys) ∷ above) → runs test rule n (below ++ (xs ++ x ∷ ys) ∷ above) ≡ runs test rule n (below ++ (xs ++ halves x m ys) ∷ above)
+      cut test law n rule below wf = same test law n rule _ wf rule _ (cut-formed n below wf) .1 (λ p h. ap rule (cut-column below p))
+
+-- many-way joins and selections
+module _ (n : ℕ) (o : Operation) (ls : List (List Range)) (wf : AllWellFormed n ls) where
+  pub merged-right : Right n (rule-of o) ls (merged o n ls)
+  unfolding merged
+  merged-right = right eqℤ decides-ℤ n (rule-of o) ls wf
+
+  pub merged-only : (xs : List Range) → Right n (rule-of o) ls xs → xs ≡ merged o n ls
+  unfolding merged
+  merged-only = only eqℤ decides-ℤ n (rule-of o) ls wf
+
+  pub merged-same : (o' : Operation) (ls' : List (List Range)) → AllWellFormed n ls' → (merged o n ls ≡ merged o' n ls') ↔ ((p : ℕ) → p < n → rule-of o (column ls p) ≡ rule-of o' (column ls' p))
+  unfolding merged
+  merged-same o' = same eqℤ decides-ℤ n (rule-of o) ls wf (rule-of o')
+
 module _ (x : Range) (m : ℕ) (low : x .start ≤ m) (high : m < x .end) (xs ys : List Range) (below above : List (List Range)) where
   pub merged-cut : (n : ℕ) (o : Operation) → AllWellFormed n (below ++ (xs ++ x ∷ ys) ∷ above) → merged o n (below ++ (xs ++ x ∷ ys) ∷ above) ≡ merged o n (below ++ (xs ++ halves x m ys) ∷ above)
-  merged-cut n o wf =
-      let whole = below ++ (xs ++ x ∷ ys) ∷ above in
-      let parts = below ++ (xs ++ halves x m ys) ∷ above in
-      merged-same n o whole wf o parts (cut-formed x m low high ys xs above n below wf) .1 (λ p h. ap (rule-of o) (cut-column x m low high ys xs above below p))
+  unfolding merged
+  merged-cut n o = cut x m low high ys xs above eqℤ decides-ℤ n (rule-of o) below

@@ -5,7 +5,7 @@ use mathlib.Core.List.{List, [], _∷_, map, List·Memᴰ, List·Memᴰ·cases-c
 use Prim.Native.Nat.{ℕ}
 use lib.IntN.{ℤ}
 use Rattle.rules.specs.Lists.{key64, point64}
-use Rattle.rules.specs.Outcomes.{pairing}
+use Rattle.rules.specs.Outcomes.{pairing, listing}
 use Rattle.many_way_rules.specs.Outcomes.{merging}
 use Rattle.many_way_rules.specs.Sheet.{Row, Result, seat-rows, instant-rows}
 
@@ -21,11 +21,11 @@ row-holds (x ∷ xs) e r m =
     (List·Memᴰ·cases-cons m)
 
 seats-computed : Computed seat-rows
-unfolding merging pairing key64 point64
+unfolding merging pairing listing key64 point64
 seats-computed = refl
 
 instants-computed : Computed instant-rows
-unfolding merging pairing key64 point64
+unfolding merging pairing listing key64 point64
 instants-computed = refl
 
 pub seat-row : (r : Row ℕ) → List·Memᴰ r seat-rows → r .got ≡ r .want

@@ -1,5 +1,4 @@
 -- A many-way join or selection as a whole outcome: from what is lent and the columns before, to the answer and the columns after. Assumes nothing.
-use mathlib.Core.List.{List}
 use lib.ListN.{length}
 use Rattle.rules.specs.Lists.{Width, Lent, lists}
 use Rattle.rules.specs.Answer.{Outcome, judge, settle}

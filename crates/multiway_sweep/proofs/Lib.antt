@@ -7,3 +7,5 @@ pub mod Sorts
 pub mod Steps
 pub mod Filled
 pub mod Sweeps
+pub mod Begun
+pub mod Drains

@@ -7,7 +7,7 @@ use lib.ListN.{length}
 use Rattle.heap.specs.Heap.{entries-of, entries, Whole}
 use Rattle.rules.specs.Piece.{AllWellFormed}
 use Rattle.rules.specs.Lists.{Width, Lent, Column, Columns, lists, total}
-use Rattle.rules.specs.Sweep.{events}
+use Rattle.rules.specs.Sweep.{Event, events}
 use Rattle.multiway_sweep.specs.Steps.{Arrays, reads, Sweeping}
 use Rattle.multiway_sweep.specs.declared.Sizes.{Sizes}
 
@@ -18,13 +18,17 @@ pub record Fillable {P : Type 0} (starts : Column P) (counts cursors start-keys 
   pub cursors-long : length (cursors .now) ≡ 32
   pub whole : Whole (entries start-keys start-lists)
 
+-- the events of the lists
+abbrev pub events-of : {P : Type 0} → Width P → Lent P → List (Event ℤ)
+events-of w l = events (lists w l)
+
 -- whatever the ends and values, if the lists are well formed
 abbrev pub Begins : {P : Type 0} → Width P → List P → List ℕ → Arrays → Sizes → Type 0
 Begins {P} w starts counts a z =
     (ends : List P) (values : List ℤ) →
     length starts ≡ length values → length ends ≡ length values →
     let l : Lent P = record { starts = starts; ends = ends; values = values; counts = counts } in
-    AllWellFormed (w .points) (lists w l) → Sweeping w (reads l) a z (events (lists w l))
+    AllWellFormed (w .points) (lists w l) → Sweeping w (reads l) a z (events-of w l)
 
 -- whatever stands in the arrays of active ends
 abbrev pub Fills : {P : Type 0} → Width P → List P → List ℕ → List ℕ → List ℕ → List ℕ → Sizes → Type 0

@@ -5,3 +5,4 @@ pub mod Stands
 pub mod Steps
 pub mod Begins
 pub mod Sweeps
+pub mod Drained

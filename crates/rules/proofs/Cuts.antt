@@ -105,17 +105,9 @@ module _ {A : Type 0} where
   map-all g [] e = tt
   map-all g (l ∷ ls) e = (map-edges g l (e .0), map-all g ls (e .1))
 
-  edges-sorted : (l : List (Piece A)) (cs : List ℕ) → Sorted cs → Sorted (edges l cs)
-  edges-sorted [] cs s = s
-  edges-sorted (x ∷ xs) cs s = enter-sorted (x .start) (enter (x .end + 1) (edges xs cs)) (enter-sorted (x .end + 1) (edges xs cs) (edges-sorted xs cs s))
-
   -- both edges of x go in
   edge-keeps : (x : Piece A) (j : ℕ) (cs : List ℕ) → In j cs → In j (enter (x .start) (enter (x .end + 1) cs))
   edge-keeps x j cs i = enter-keeps (x .start) j (enter (x .end + 1) cs) (enter-keeps (x .end + 1) j cs i)
-
-  edges-keep : (j : ℕ) (l : List (Piece A)) (cs : List ℕ) → In j cs → In j (edges l cs)
-  edges-keep j [] cs i = i
-  edges-keep j (x ∷ xs) cs i = edge-keeps x j (edges xs cs) (edges-keep j xs cs i)
 
   edges-in : (l : List (Piece A)) (cs : List ℕ) → Edges (λ k. In k (edges l cs)) l
   edges-in [] cs = tt
@@ -123,6 +115,14 @@ module _ {A : Type 0} where
       let ds = edges xs cs in
       let es = enter (x .end + 1) ds in
       (enter-in (x .start) es, enter-keeps (x .start) (x .end + 1) es (enter-in (x .end + 1) ds), map-edges (λ k i. edge-keeps x k ds i) xs (edges-in xs cs))
+
+  edges-sorted : (l : List (Piece A)) (cs : List ℕ) → Sorted cs → Sorted (edges l cs)
+  edges-sorted [] cs s = s
+  edges-sorted (x ∷ xs) cs s = enter-sorted (x .start) (enter (x .end + 1) (edges xs cs)) (enter-sorted (x .end + 1) (edges xs cs) (edges-sorted xs cs s))
+
+  edges-keep : (j : ℕ) (l : List (Piece A)) (cs : List ℕ) → In j cs → In j (edges l cs)
+  edges-keep j [] cs i = i
+  edges-keep j (x ∷ xs) cs i = edge-keeps x j (edges xs cs) (edges-keep j xs cs i)
 
   edges-upto : (c n : ℕ) (l : List (Piece A)) (cs : List ℕ) → Within c n l → Upto n cs → Upto n (edges l cs)
   edges-upto c n [] cs w u = u

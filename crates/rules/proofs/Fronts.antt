@@ -1,12 +1,12 @@
--- Columns that are written from a place on, one piece after the other. Assumes nothing.
-use Prim.Native.Nat.{ℕ, suc, _+_, _≤_, _<_}
+-- Columns that are written from a place on: what they hold, place by place, and one piece more. Assumes nothing.
+use Prim.Native.Nat.{ℕ, zero, suc, _+_, _-_, _≤_, _<_}
 use mathlib.Core.Path.{_≡_, refl, sym, ap, _∙_}
 use mathlib.Core.List.{List, [], _∷_, map, _++_, append-assoc}
 use native.Mathlib.Omega.{arith}
 use native.Mathlib.Nat.{add-zero}
 use native.Mathlib.Numerals.{add-one}
-use lib.ListN.{length, getD, take, drop, set, length-append, length-take, length-drop, length-map, take-append-drop}
-use lib.Seq.{take-suc, drop-cons, set-at, length-take-le}
+use lib.ListN.{length, getD, take, drop, set, length-append, length-take, length-drop, length-map, take-append-drop, List·getD-append}
+use lib.Seq.{take-suc, drop-cons, set-at, length-take-le, getD-append-add, getD-take, getD-drop}
 use Rattle.rules.specs.Answer.{least, laid}
 use Rattle.rules.specs.Proving.Long.{Long}
 
@@ -32,6 +32,11 @@ module _ {R A : Type 0} (f : R → A) where
   map-snoc [] r = refl
   map-snoc (x ∷ xs) r = ap (λ (l : List A). f x ∷ l) (map-snoc xs r)
 
+  map-at : (rs : List R) (i : ℕ) (d : A) (r : R) → i < length rs → getD (map f rs) i d ≡ f (getD rs i r)
+  map-at [] i d r h = absurd (omega arith)
+  map-at (x ∷ xs) zero d r h = refl
+  map-at (x ∷ xs) (suc i) d r h = map-at xs i d r (omega arith)
+
   module _ (from : ℕ) where
     -- one piece more
     pub laid-snoc : (rs : List R) (r : R) (old : List A) (n : ℕ) → length rs ≡ n → from + n < length old → set (laid from f rs old) (from + n) (f r) ≡ laid from f (rs ++ (r ∷ [])) old
@@ -47,6 +52,27 @@ module _ {R A : Type 0} (f : R → A) where
     pub laid-more : (l : List R) (n : ℕ) (x : R) (xs : List R) (old : List A) → drop n l ≡ x ∷ xs → from + length l ≤ length old → set (laid from f (take n l) old) (from + n) (f x) ≡ laid from f (take (n + 1) l) old
     laid-more l n x xs old e h =
         rw (take-more l n x xs e) (laid-snoc (take n l) x old n (length-take-le n l (omega (arith, drop-lt l n x xs e))) (omega (arith, drop-lt l n x xs e)))
+
+    -- the places before and after the pieces keep what they had, and each piece stands in its place
+    module _ (rs : List R) (old : List A) (h : from + length rs ≤ length old) where
+      before-long : length (take from old) ≡ from
+      before-long = length-take-le from old (omega arith)
+
+      past-before : (i : ℕ) (d : A) → getD (laid from f rs old) (from + i) d ≡ getD (map f rs ++ drop (from + length rs) old) i d
+      past-before i d = let q = getD-append-add (take from old) (map f rs ++ drop (from + length rs) old) i d in rw before-long at q
+
+      pub laid-before : (j : ℕ) (d : A) → j < from → getD (laid from f rs old) j d ≡ getD old j d
+      laid-before j d l = List·getD-append (take from old) _ d j (omega (arith, before-long)) ∙ getD-take from old j d l
+
+      pub laid-at : (i : ℕ) (d : A) (r : R) → i < length rs → getD (laid from f rs old) (from + i) d ≡ f (getD rs i r)
+      laid-at i d r l = past-before i d ∙ List·getD-append (map f rs) _ d i (omega (arith, length-map rs f)) ∙ map-at rs i d r l
+
+      pub laid-after : (j : ℕ) (d : A) → from + length rs ≤ j → getD (laid from f rs old) j d ≡ getD old j d
+      laid-after j d l =
+          let k = j - (from + length rs) in
+          let p : from + (length (map f rs) + k) ≡ j = omega (arith, length-map rs f) in
+          let q : (from + length rs) + k ≡ j = omega arith in
+          ap (λ m. getD (laid from f rs old) m d) (sym p) ∙ past-before (length (map f rs) + k) d ∙ getD-append-add (map f rs) _ k d ∙ getD-drop (from + length rs) old k d ∙ ap (λ m. getD old m d) q
 
     -- nothing laid leaves the column
     pub laid-nothing : (old : List A) → laid from f [] old ≡ old

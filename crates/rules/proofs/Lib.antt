@@ -1,17 +1,22 @@
--- The laws of document 01: TwoWay and Meets, Sweep, Refusals, Room. The other modules serve them.
+-- The laws of document 01: Parameters, Columns, Present, Fronts, Refusals, Operations, Said, Sweep and Events, TwoWay and Meets, Room. The other modules serve them.
 pub mod At
 pub mod Unique
 pub mod Push
-pub mod Columns
-pub mod Fronts
 pub mod Cuts
 pub mod Runs
 pub mod Same
-pub mod TwoWay
-pub mod Meets
-pub mod Sweep
+pub mod Present
+pub mod Parameters
+pub mod Columns
+pub mod Fronts
+pub mod Extreme
 pub mod Faults
 pub mod Refusals
+pub mod Operations
+pub mod Said
+pub mod Sweep
+pub mod Events
+pub mod TwoWay
+pub mod Meets
 pub mod Room
 pub mod Passes
-pub mod Said

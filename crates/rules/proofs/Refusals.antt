@@ -2,7 +2,7 @@
 use Prim.Native.Nat.{ℕ, suc, _≤_, _<_}
 use mathlib.Core.Path.{_≡_, refl, sym, ap, _∙_, subst}
 use mathlib.Core.Logic.{_↔_, _≢_, _⊎_, inl, inr, ⊎-elim}
-use mathlib.Core.Bool.{Bool, true, false, not-eq-not}
+use mathlib.Core.Bool.{Bool, true, false, cond, not-eq-not, false≢true}
 use mathlib.Core.List.{[], _∷_}
 use native.Mathlib.Omega.{arith}
 use native.Mathlib.Nat.{sub-zero, eq-or-lt-of-le, le-of-suc-le-suc}
@@ -10,21 +10,25 @@ use lib.ListN.{length, getD}
 use borrow.Author.Tests.{le-ltb, le-leb, lt-leb}
 use Rattle.rules.proofs.At.{le-or-lt}
 use Rattle.rules.specs.Lists.{Width, Lent, keys, tracks}
-use Rattle.rules.specs.Answer.{code-of, refuse, judge-lists, two-way, unknown-combiner, agree, judge, Outcome, settle}
+use Rattle.rules.specs.Answer.{code-of, refuse, judge-lists, two-way, unknown-combiner, agree, judge, Outcome, leaves, settle}
 use Rattle.rules.specs.Refusals.{turn, Agree, Formed, IsBackward, IsOverlap, FirstFault, Due, Given}
 use Rattle.rules.specs.declared.Answer.{Answer}
 use Rattle.rules.specs.declared.Answer.the-variants.{Done, TooManyLists, NotTwoLists, TooManyRanges, ColumnsDiffer, Backward, Overlap, UnknownCombiner, NoRoom}
 use Rattle.rules.specs.declared.Judgement.{Judgement}
 use Rattle.rules.specs.declared.Judgement.the-variants.{Sound, Refused}
 use Rattle.rules.specs.declared.Kind.{Kind}
+use Rattle.rules.specs.declared.Kind.the-variants.{Listing, TwoWay, Join, Selection}
 use Rattle.rules.proofs.Faults.{Tells, tells-true, tells-lt, tells-le, tells-eq, tells-not, tells-both, tells-as, tells-holds, tells-not-holds, Names, backward, overlap, names-fault, Fault, Finds, sound, refused, fault-only, finds-lists, not-refused, all-clear, all-formed}
 
 module _ {C : Type 0} (needed room : ℕ) (before after : C) where
-  fits : needed ≤ room → settle Sound needed room before after ≡ record { answer = Done needed; columns = after }
-  fits h = rw (le-leb needed room h)
+  abbrev choice : Bool → Outcome C
+  choice t = cond t (leaves (Done needed) after) (leaves (NoRoom needed) before)
 
-  lacks : room < needed → settle Sound needed room before after ≡ record { answer = NoRoom needed; columns = before }
-  lacks h = rw (lt-leb needed room h)
+  pub lacks : room < needed → settle Sound needed room before after ≡ leaves (NoRoom needed) before
+  lacks h = ap choice (lt-leb needed room h)
+
+  pub fits : needed ≤ room → settle Sound needed room before after ≡ leaves (Done needed) after
+  fits h = ap choice (le-leb needed room h)
 
   -- every refusal leaves the columns untouched
   pub refused-keeps : (j : Judgement) → code-of (settle j needed room before after .answer) ≢ 0 → settle j needed room before after .columns ≡ before
@@ -207,6 +211,28 @@ module _ {P : Type 0} (w : Width P) (k : Kind) (l : Lent P) where
       (not-refused ColumnsDiffer (tells-not-holds (tells-not (agree-tells l)) (λ n. n (f .agree)))
       (not-refused TooManyRanges (le-ltb 2048 _ (f .ranges-few))
       (not-refused UnknownCombiner (f .known-combiner) (all-clear _ _ (w .points) 0 (l .counts) (f .formed))))))
+
+  -- given that each end is a point
+  pub sound-exactly : ((i : ℕ) → i < length (l .ends) → keys w (l .ends) i < w .points) → (judge w k l ≡ Sound) ↔ Formed w k l
+  sound-exactly low = (sound-formed low, formed-sound)
+
+-- a test of kinds that fails at k and passes at k'
+told-apart : (test : Kind → Bool) (k k' : Kind) → test k ≡ false → test k' ≡ true → (test k ≡ true) ↔ (k ≡ k')
+told-apart test k k' p q = (λ h. absurd (false≢true (sym p ∙ h)), λ e. ap test e ∙ q)
+
+-- code 2 can be due for two-way operations alone, and code 7 for joins whose combiner is not known
+pub two-way-exactly : (k : Kind) → (two-way k ≡ true) ↔ (k ≡ TwoWay)
+two-way-exactly Listing = told-apart two-way Listing TwoWay refl refl
+two-way-exactly TwoWay = (λ q. refl, λ q. refl)
+two-way-exactly (Join known) = told-apart two-way (Join known) TwoWay refl refl
+two-way-exactly Selection = told-apart two-way Selection TwoWay refl refl
+
+pub unknown-exactly : (k : Kind) → (unknown-combiner k ≡ true) ↔ (k ≡ Join false)
+unknown-exactly Listing = told-apart unknown-combiner Listing (Join false) refl refl
+unknown-exactly TwoWay = told-apart unknown-combiner TwoWay (Join false) refl refl
+unknown-exactly (Join true) = told-apart unknown-combiner (Join true) (Join false) refl refl
+unknown-exactly (Join false) = (λ q. refl, λ q. refl)
+unknown-exactly Selection = told-apart unknown-combiner Selection (Join false) refl refl
 
 -- two answers that conform to one outcome are equal
 pub determined : {C : Type 0} (o o' e : Outcome C) → o ≡ e → o' ≡ e → (o .answer ≡ o' .answer) × (o .columns ≡ o' .columns)

@@ -1,21 +1,21 @@
 -- Room: n ranges give at most 2n - 1 pieces. Assumes nothing.
-use Prim.Native.Nat.{ℕ, zero, suc, pred, _+_, _*_, _-_, _≤_, _<_}
-use mathlib.Core.Path.{_≡_, refl, sym, ap, _∙_}
-use mathlib.Core.Bool.{Bool, true, false, cond, false≢true, and-false}
+use Prim.Native.Nat.{ℕ, pred, _+_, _*_, _-_, _≤_}
+use mathlib.Core.Path.{_≡_, refl, ap}
+use mathlib.Core.Bool.{Bool, true, false, cond}
 use mathlib.Core.Option.{Option, none, some}
 use mathlib.Core.List.{List, [], _∷_}
 use native.Mathlib.Omega.{arith}
 use lib.Dec.{ltb, eqb}
 use lib.ListN.{length}
-use Rattle.rules.specs.Piece.{Piece, Range, AllWellFormed}
-use Rattle.rules.specs.Same.{eqℤ, Decides}
+use Rattle.rules.specs.Piece.{Piece, AllWellFormed}
+use Rattle.rules.specs.Same.{Decides}
 use Rattle.rules.specs.Runs.{enter, edges, cuts, line, attach, touch, push, extend, fill, pieces, says, runs}
 use Rattle.rules.specs.declared.Pairing.{Pairing}
 use Rattle.rules.specs.declared.Pairing.the-variants.{Inner, Left, Full}
 use Rattle.rules.specs.TwoWay.{same-match, pair-rule, paired}
 use Rattle.rules.specs.Proving.Below.{nones, size}
 use Rattle.rules.proofs.Runs.{runs-cuts}
-use Rattle.rules.proofs.Same.{decides-ℤ, decides-match}
+use Rattle.rules.proofs.Same.{decides-match}
 
 enter-count : (k : ℕ) (cs : List ℕ) → length (enter k cs) ≤ length cs + 1
 enter-count k [] = omega arith

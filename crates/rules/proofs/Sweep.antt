@@ -1,7 +1,7 @@
 -- The sweep: n ranges give 2n events, strictly ordered, and any ordered listing of the same events is that one. Assumes nothing.
 use Prim.Native.Nat.{ℕ, suc, _+_, _*_, _≤_, _<_}
 use mathlib.Core.Path.{_≡_, refl, sym, ap, _∙_, subst}
-use mathlib.Core.Logic.{_⊎_, inl, inr, _≢_}
+use mathlib.Core.Logic.{_↔_, _⊎_, inl, inr, _≢_}
 use mathlib.Core.Bool.{Bool, true, false, cond, _&&_, _||_, true≢false, false≢true}
 use mathlib.Core.List.{List, [], _∷_, _++_}
 use native.Mathlib.Omega.{arith}
@@ -237,6 +237,9 @@ module _ {A : Type 0} where
       go : (t : Bool) → before a b ≡ t → t ≡ true
       go true e = refl
       go false e = absurd (clash a b p (before-false a b e (λ q. apart q (le-or-lt (moment b) (moment a)))))
+
+  pub before-exactly : (a b : Event A) → (before a b ≡ true) ↔ Before a b
+  before-exactly a b = (before-true a b, before-yes a b)
 
   ordered-sorted : (es : List (Event A)) → Ordered es → Sorted es
   ordered-sorted [] o = tt

@@ -1,12 +1,11 @@
 -- Two-way operations: what each cuts and keeps, and that values alter no start, end or presence. Assumes nothing.
 use Prim.Native.Nat.{ℕ, _+_, _-_, _≤_, _<_, min}
 use mathlib.Core.Path.{_≡_, refl, sym, _∙_, ap}
-use mathlib.Core.Logic.{_⊎_, inl, inr}
-use mathlib.Core.Bool.{Bool, true, false, cond}
+use mathlib.Core.Logic.{_↔_, _⊎_, inl, inr, ⊎-elim}
+use mathlib.Core.Bool.{Bool, true, false, cond, true≢false, false≢true}
 use mathlib.Core.Option.{Option, none, some}
 use mathlib.Core.List.{List, [], _∷_}
 use native.Mathlib.Omega.{arith}
-use lib.Dec.{leb}
 use lib.IntN.{ℤ, pos}
 use lib.ListN.{length, getD, length-append, length-map, length-take, length-drop}
 use Rattle.rules.specs.Piece.{Piece, at, Within, WellFormed, Apart, Differ}
@@ -19,12 +18,13 @@ use Rattle.rules.specs.TwoWay.{Match, keeps, pair-rule, same-match, pair
 use Rattle.rules.specs.Paired.{Paired, room, lay}
 use Rattle.rules.specs.Outcomes.{pairing}
 use Rattle.rules.specs.Proving.Below.{Below}
-use Rattle.rules.specs.declared.Answer.the-variants.{Done, NoRoom}
 use Rattle.rules.specs.declared.Judgement.{Judgement}
 use Rattle.rules.specs.declared.Judgement.the-variants.{Sound, Refused}
 use Rattle.rules.specs.declared.Kind.the-variants.{TwoWay}
 use Rattle.rules.proofs.At.{at-in, at-before, at-after, at-early, le-or-lt}
-use Rattle.rules.proofs.Same.{decides-match}
+use Rattle.rules.proofs.Same.{none≢some, decides-match}
+use Rattle.rules.proofs.Present.{Something, there-exactly}
+use Rattle.rules.proofs.Refusals.{lacks, fits}
 use Rattle.rules.proofs.Runs.{runs-below, runs-only}
 
 module _ (o : Pairing) (n : ℕ) (l r : List (Piece ℕ)) (u : WellFormed n l) (w : WellFormed n r) where
@@ -37,6 +37,37 @@ module _ (o : Pairing) (n : ℕ) (l r : List (Piece ℕ)) (u : WellFormed n l) (
   pub paired-only : (xs : List (Piece Match)) → Below n xs (says (pair-rule o) (l ∷ r ∷ [])) → xs ≡ paired o n (l ∷ r ∷ [])
   unfolding paired
   paired-only = runs-only same-match decides-match (pair-rule o) n (l ∷ r ∷ []) (u, (w, tt))
+
+-- what each operation admits of what the left and the right have: both, the left, or either
+abbrev pub Covers : Pairing → Option ℕ → Option ℕ → Type 0
+Covers Inner a b = Something a × Something b
+Covers Left a b = Something a
+Covers Full a b = Something a ⊎ Something b
+
+covers : (o : Pairing) (a b : Option ℕ) → keeps o (a, b) ≡ true → Covers o a b
+covers Inner (some i) (some j) e = ((i, refl), (j, refl))
+covers Inner (some i) none e = absurd (false≢true e)
+covers Inner none b e = absurd (false≢true e)
+covers Left a b e = there-exactly a .0 e
+covers Full (some i) b e = inl (i, refl)
+covers Full none b e = inr (there-exactly b .0 e)
+
+leaves-out : (o : Pairing) (a b : Option ℕ) → keeps o (a, b) ≡ false → Covers o a b → ⊥
+leaves-out Inner none b e c = none≢some (c .0 .0) (c .0 .1)
+leaves-out Inner (some i) b e c = true≢false (sym (there-exactly b .1 (c .1)) ∙ e)
+leaves-out Left a b e c = true≢false (sym (there-exactly a .1 c) ∙ e)
+leaves-out Full (some i) b e c = true≢false e
+leaves-out Full none b e (inl c) = none≢some (c .0) (c .1)
+leaves-out Full none b e (inr c) = true≢false (sym (there-exactly b .1 c) ∙ e)
+
+module _ (o : Pairing) (n : ℕ) (l r : List (Piece ℕ)) (u : WellFormed n l) (w : WellFormed n r) where
+  -- a point has the places that cover it, exactly where the operation admits them
+  pub paired-at : (p : ℕ) → p < n → (m : Match) → (at (paired o n (l ∷ r ∷ [])) p ≡ some m) ↔ ((m ≡ (at l p, at r p)) × Covers o (at l p) (at r p))
+  paired-at p h m = rw (paired-cut o n l r u w .agrees p h) (go (keeps o (at l p, at r p)) refl)
+    where
+      go : (t : Bool) → keeps o (at l p, at r p) ≡ t → (cond t (some (at l p, at r p)) none ≡ some m) ↔ ((m ≡ (at l p, at r p)) × Covers o (at l p) (at r p))
+      go true e = (λ q. (cc, covers o (at l p) (at r p) e), λ c. ap some (sym (c .0)))
+      go false e = (λ q. absurd (none≢some m q), λ c. absurd (leaves-out o (at l p) (at r p) e (c .1)))
 
 module _ {A : Type 0} where
   pub within-low : (b c n : ℕ) (xs : List (Piece A)) → b ≤ c → Within c n xs → Within b n xs
@@ -142,13 +173,16 @@ laid-length : {A R : Type 0} (n : ℕ) (f : R → A) (xs : List R) (l : List A) 
 laid-length n f xs l = simp (length-append, length-take, length-map, length-drop)
 
 module _ {P : Type 0} where
+  alike-by : {x y x' y' : Outcome (Paired P)} → x ≡ y → x' ≡ y' → AlikeOutcomes y y' → AlikeOutcomes x x'
+  alike-by p q r = rw (p, q) r
+
   settle-alike : (j : Judgement) (needed room : ℕ) (b b' a a' : Paired P) → Alike b b' → Alike a a' → AlikeOutcomes (settle j needed room b a) (settle j needed room b' a')
   settle-alike (Refused x) needed room b b' a a' h k = record { answer = refl; columns = h }
-  settle-alike Sound needed room b b' a a' h k = go (leb needed room)
-    where
-      go : (t : Bool) → AlikeOutcomes (cond t (record { answer = Done needed; columns = a }) (record { answer = NoRoom needed; columns = b })) (cond t (record { answer = Done needed; columns = a' }) (record { answer = NoRoom needed; columns = b' }))
-      go true = record { answer = refl; columns = k }
-      go false = record { answer = refl; columns = h }
+  settle-alike Sound needed room b b' a a' h k =
+      ⊎-elim
+      (λ l. alike-by (fits needed room b a l) (fits needed room b' a' l) (record { answer = refl; columns = k }))
+      (λ l. alike-by (lacks needed room b a l) (lacks needed room b' a' l) (record { answer = refl; columns = h }))
+      (le-or-lt needed room)
 
   module _ (w : Width P) where
     lay-alike : (v v' : ℕ → ℤ) (xs : List (Piece Match)) (c c' : Paired P) → Alike c c' → Alike (lay w v 0 xs c) (lay w v' 0 xs c')
@@ -162,7 +196,7 @@ module _ {P : Type 0} where
         }
 
     room-alike : (c c' : Paired P) → Alike c c' → room c ≡ room c'
-    room-alike c c' h = rw (h .start, h .end, h .presence, h .left, h .right)
+    room-alike c c' h = cc
 
     -- changing values while starts and ends stay alters no piece's start, end or presence
     pub values-alter-nothing : (o : Pairing) (l l' : Lent P) (c c' : Paired P) → SameRanges l l' → Alike c c' → AlikeOutcomes (pairing w o l c) (pairing w o l' c')

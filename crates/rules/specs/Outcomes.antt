@@ -1,7 +1,5 @@
 -- The event listing and the two-way operations as whole outcomes: from what is lent and the columns before, to the answer and the columns after. Assumes nothing.
-use Prim.Native.Nat.{ℕ}
-use mathlib.Core.List.{List}
-use lib.IntN.{ℤ, pos}
+use lib.IntN.{pos}
 use lib.ListN.{length, getD}
 use Rattle.rules.specs.Lists.{Width, Lent, lists, tracks}
 use Rattle.rules.specs.Answer.{Outcome, judge, settle}

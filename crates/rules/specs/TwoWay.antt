@@ -1,6 +1,6 @@
 -- Two-way operations: the line is cut where the covering left range, or the covering right range, or either's absence, changes. A range is known by its place, so nothing merges; values are read when the runs are found. Assumes nothing.
 use Prim.Native.Nat.{ℕ, max, min}
-use mathlib.Core.Bool.{Bool, true, false, cond, _&&_, _||_}
+use mathlib.Core.Bool.{Bool, cond, _&&_, _||_}
 use mathlib.Core.Option.{Option, none, some}
 use mathlib.Core.List.{List, [], _∷_, _++_}
 use lib.Dec.{eqb, leb}

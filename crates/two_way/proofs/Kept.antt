@@ -11,12 +11,12 @@ use Rattle.two_way.specs.declared.Side.{Side}
 use Rattle.two_way.proofs.Sides.{past-in, past-end, side-fresh}
 
 module _ {P : Type 0} {w : Width P} {starts ends : List P} {stop q : ℕ} {c : Side} where
-  pub kept-all : {missing : Bool} → missing ≡ true → Kept w starts ends stop missing c q c
+  pub kept-all : {missing : Bool} → missing ≡ true → Kept w starts ends stop c missing q c
   kept-all e = record { is = rw e }
 
   module _ {missing : Bool} (e : missing ≡ false) {own : ℕ} (k : KeyAt w ends (c .at) own) where
-    pub kept-remainder : q < own → Kept w starts ends stop missing c q (record { at = c .at; start = q + 1 })
+    pub kept-remainder : q < own → Kept w starts ends stop c missing q (record { at = c .at; start = q + 1 })
     kept-remainder h = record { is = rw e (sym (past-in (keys w starts) (keys w ends) stop (c .at) q (omega (arith, k .is)))) }
 
-    pub kept-after : own ≤ q → {r : Side} → Fresh w starts stop (c .at + 1) r → Kept w starts ends stop missing c q r
+    pub kept-after : own ≤ q → {r : Side} → Fresh w starts stop (c .at + 1) r → Kept w starts ends stop c missing q r
     kept-after h {r} f = record { is = rw e (side-fresh (keys w starts) (keys w ends) stop (c .at + 1) r (f .place) (f .from) ∙ sym (past-end (keys w starts) (keys w ends) stop (c .at) q (omega (arith, k .is)))) }

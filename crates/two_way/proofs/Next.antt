@@ -8,19 +8,21 @@ use mathlib.Core.List.{List}
 use native.Mathlib.Omega.{arith}
 use Rattle.integer.specs.KeyAt.{KeyAt}
 use Rattle.rules.specs.Piece.{Piece, at, Within}
-use Rattle.rules.specs.TwoWay.{Pairing, inner, left, full, keeps}
+use Rattle.rules.specs.TwoWay.{keeps}
+use Rattle.rules.specs.declared.Pairing.{Pairing}
+use Rattle.rules.specs.declared.Pairing.the-variants.{Inner, Left, Full}
 use Rattle.rules.proofs.At.{at-early, le-or-lt}
+use Rattle.rules.proofs.Same.{none≢some}
 use Rattle.rules.proofs.TwoWay.{within-low}
 use Rattle.two_way.specs.Sides.{side, onward, Two, start-at, end-at, stop, left-of, right-of, remains}
-use Rattle.two_way.specs.Steps.{Fresh, high, Ready, Covers, Stepped}
+use Rattle.two_way.specs.Steps.{Fresh, Ready, Covers, Taken, Stepped}
 use Rattle.two_way.specs.declared.Side.{Side}
 use Rattle.two_way.specs.declared.Cursor.{Cursor}
-use Rattle.two_way.specs.declared.Step.{Step}
-use Rattle.two_way.specs.declared.Step.the-variants.{Piece as Next, Done}
-use Rattle.two_way.proofs.Line.{keeps-nothing}
-use Rattle.two_way.proofs.Peel.{none-some, said, pair-none, pair-same}
+use Rattle.two_way.specs.declared.NextPair.{NextPair}
+use Rattle.two_way.specs.declared.NextPair.the-variants.{Next, Done}
+use Rattle.two_way.proofs.Peel.{said, said-nothing, pair-none, pair-same}
 use Rattle.two_way.proofs.Sides.{side-done, side-fresh, side-order, side-upto, side-from, side-early, side-in, side-after, side-ends, onward-within}
-use Rattle.two_way.proofs.Emit.{Emits}
+use Rattle.two_way.proofs.Emit.{Emits, emitted}
 
 module _ {P : Type 0} (t : Two P) where
   -- the list of a side that stops at a
@@ -28,7 +30,18 @@ module _ {P : Type 0} (t : Two P) where
   list a x = side (start-at t) (end-at t) a x
 
   abbrev Ascends : ℕ → Side → Type 0
-  Ascends a x = Within 0 (high t) (list a x)
+  Ascends a x = Within 0 (t .width .points) (list a x)
+
+  -- a side at its range
+  module _ (a : ℕ) (x : Side) (u : Ascends a x) (h : x .at < a) where
+    ordered : x .start ≤ end-at t (x .at)
+    ordered = side-order (start-at t) (end-at t) a (t .width .points) x u h
+
+    before : (z : ℕ) → z < x .start → at (list a x) z ≡ none
+    before = side-early (start-at t) (end-at t) a (t .width .points) x u h
+
+    ends : (q : ℕ) → q ≡ end-at t (x .at) → at (list a x) (q + 1) ≡ some (x .at) → ⊥
+    ends q e g = side-ends (start-at t) (end-at t) a (t .width .points) x u h (rw e at g)
 
   -- x alone has the points from its start to q, and no longer past q
   record Prefix (a b : ℕ) (x y : Side) (q : ℕ) : Type 0 where
@@ -39,68 +52,65 @@ module _ {P : Type 0} (t : Two P) where
     early : (z : ℕ) → z < x .start → (at (list a x) z ≡ none) × (at (list b y) z ≡ none)
 
   module _ (a b : ℕ) (x y : Side) (u : Ascends a x) (h : x .at < a) where
-    ordered : x .start ≤ end-at t (x .at)
-    ordered = side-order (start-at t) (end-at t) a (high t) x u h
-
-    before : (z : ℕ) → z < x .start → at (list a x) z ≡ none
-    before = side-early (start-at t) (end-at t) a (high t) x u h
-
-    ends : (q : ℕ) → q ≡ end-at t (x .at) → at (list a x) (q + 1) ≡ some (x .at) → ⊥
-    ends q e g = side-ends (start-at t) (end-at t) a (high t) x u h (rw e at g)
-
-    prefix-made : (q : ℕ) → x .start ≤ q → q ≤ end-at t (x .at) → Within (q + 1) (high t) (list b y) → (at (list a x) (q + 1) ≡ some (x .at) → at (list b y) (q + 1) ≡ none → ⊥) → Prefix a b x y q
-    prefix-made q o l w e = record { order = o; covers = (h, omega arith, l); misses = w; edge = e; early = λ z m. (before z m, at-early (q + 1) (high t) (list b y) w z (omega arith)) }
+    prefix-made : (q : ℕ) → x .start ≤ q → q ≤ end-at t (x .at) → Within (q + 1) (t .width .points) (list b y) → (at (list a x) (q + 1) ≡ some (x .at) → at (list b y) (q + 1) ≡ none → ⊥) → Prefix a b x y q
+    prefix-made q o l w e =
+        record { order = o; covers = (h, omega arith, l); misses = w; edge = e; early = λ z m. (before a x u h z m, at-early (q + 1) (t .width .points) (list b y) w z (omega arith)) }
 
     -- the other is done
     alone : b ≤ y .at → Prefix a b x y (end-at t (x .at))
-    alone d = prefix-made (end-at t (x .at)) ordered (omega arith) (rw (side-done (start-at t) (end-at t) b y d) (side-upto (start-at t) (end-at t) a (high t) x u h)) (λ g n. ends _ refl g)
+    alone d =
+        prefix-made (end-at t (x .at)) (ordered a x u h) (omega arith) (rw (side-done (start-at t) (end-at t) b y d) (side-upto (start-at t) (end-at t) a (t .width .points) x u h)) (λ g n. ends a x u h _ refl g)
 
     -- the other starts later
     prefix : Ascends b y → y .at < b → x .start < y .start → (q : ℕ) → q ≡ min (end-at t (x .at)) (y .start - 1) → Prefix a b x y q
-    prefix w m l q e = prefix-made q (omega (arith, ordered)) (omega arith) (within-low (q + 1) (y .start) (high t) (list b y) (omega arith) from) (edge (le-or-lt (end-at t (x .at)) (y .start - 1)))
+    prefix w m l q e =
+        prefix-made q (omega (arith, ordered a x u h)) (omega arith) (within-low (q + 1) (y .start) (t .width .points) (list b y) (omega arith) from) (edge (le-or-lt (end-at t (x .at)) (y .start - 1)))
       where
-        from : Within (y .start) (high t) (list b y)
-        from = side-from (start-at t) (end-at t) b (high t) y w m
+        from : Within (y .start) (t .width .points) (list b y)
+        from = side-from (start-at t) (end-at t) b (t .width .points) y w m
 
         edge : (end-at t (x .at) ≤ y .start - 1) ⊎ (y .start - 1 < end-at t (x .at)) → at (list a x) (q + 1) ≡ some (x .at) → at (list b y) (q + 1) ≡ none → ⊥
-        edge (inl k) g n = ends q (omega arith) g
-        edge (inr k) g n = none-some n (side-in (start-at t) (end-at t) b (high t) y w m (q + 1) (omega arith) (omega (arith, side-order (start-at t) (end-at t) b (high t) y w m)))
+        edge (inl k) g n = ends a x u h q (omega arith) g
+        edge (inr k) g n = none≢some _ (sym n ∙ side-in (start-at t) (end-at t) b (t .width .points) y w m (q + 1) (omega arith) (omega (arith, ordered b y w m)))
+
+-- both lists have a range left, which ends at le and at re
+pub record Ranges {P : Type 0} (t : Two P) (c : Cursor) (le re : ℕ) : Type 0 where
+  pub ready : Ready t c
+  pub left : c .left .at < t .middle
+  pub right : c .right .at < stop t
+  pub left-end : KeyAt (t .width) (t .ends) (c .left .at) le
+  pub right-end : KeyAt (t .width) (t .ends) (c .right .at) re
+
+-- what a step may go on from in place of c
+pub record Instead {P : Type 0} (t : Two P) (o : Pairing) (c d : Cursor) : Type 0 where
+  pub ready : Ready t d
+  pub same : remains t o c ≡ remains t o d
+
+-- an operation that keeps nothing without the left, and without the right
+abbrev pub WantsLeft : Pairing → Type 0
+WantsLeft o = (b : Option ℕ) → said o none b ≡ none
+
+abbrev pub WantsRight : Pairing → Type 0
+WantsRight o = (a : Option ℕ) → said o a none ≡ none
+
+pub inner-wants-right : WantsRight Inner
+inner-wants-right none = refl
+inner-wants-right (some i) = refl
 
 module _ {P : Type 0} {t : Two P} {c : Cursor} (ready : Ready t c) where
-  abbrev la : ℕ
-  la = c .left .at
+  left-made : (o : Pairing) → keeps o (some (c .left .at), none) ≡ true → (q : ℕ) → q < t .width .points → Prefix t (t .middle) (stop t) (c .left) (c .right) q → Emits t o c (c .left .start) q 1
+  left-made o keep q l f =
+      record {
+        covering = record { ready = ready; left = f .covers; right = f .misses };
+        order = f .order;
+        below = l;
+        bits = (omega arith, omega arith);
+        early = λ z m. let i = f .early z m .0 in let j = f .early z m .1 in rw (i, j) (said-nothing o);
+        kept = keep;
+        edge = f .edge;
+      }
 
-  abbrev ra : ℕ
-  ra = c .right .at
-
-  abbrev ls : ℕ
-  ls = c .left .start
-
-  abbrev rs : ℕ
-  rs = c .right .start
-
-  module _ (o : Pairing) (keep : keeps o (some la, none) ≡ true) where
-    left-made : (q : ℕ) → q < t .width .points → Prefix t (t .middle) (stop t) (c .left) (c .right) q → Emits t o c ls q 1
-    left-made q l f =
-        record {
-          covering = record { ready = ready; left = f .covers; right = f .misses };
-          order = f .order;
-          below = l;
-          bits = (omega arith, omega arith);
-          early = λ z m. let i = f .early z m .0 in let j = f .early z m .1 in rw (i, j) (keeps-nothing o);
-          kept = keep;
-          edge = f .edge;
-        }
-
-    module _ (h : la < t .middle) {le : ℕ} (k : KeyAt (t .width) (t .ends) la le) where
-      -- the left alone, up to the right's start or its own end
-      pub left-prefix : ra < stop t → ls < rs → {q : ℕ} → q ≡ min le (rs - 1) → Emits t o c ls q 1
-      left-prefix m l {q} e = left-made q (omega (arith, k .below)) (prefix t (t .middle) (stop t) (c .left) (c .right) (ready .left) h (ready .right) m l q (omega (arith, k .is)))
-
-      pub left-alone : stop t ≤ ra → Emits t o c ls le 1
-      left-alone m = left-made le (k .below) (rw (k .is) (alone t (t .middle) (stop t) (c .left) (c .right) (ready .left) h m))
-
-  right-made : (q : ℕ) → q < t .width .points → Prefix t (stop t) (t .middle) (c .right) (c .left) q → Emits t full c rs q 2
+  right-made : (q : ℕ) → q < t .width .points → Prefix t (stop t) (t .middle) (c .right) (c .left) q → Emits t Full c (c .right .start) q 2
   right-made q l f =
       record {
         covering = record { ready = ready; left = f .misses; right = f .covers };
@@ -112,141 +122,15 @@ module _ {P : Type 0} {t : Two P} {c : Cursor} (ready : Ready t c) where
         edge = λ g n. f .edge n g;
       }
 
-  module _ (h : ra < stop t) {re : ℕ} (k : KeyAt (t .width) (t .ends) ra re) where
-    pub right-prefix : la < t .middle → rs < ls → {q : ℕ} → q ≡ min re (ls - 1) → Emits t full c rs q 2
-    right-prefix m l {q} e = right-made q (omega (arith, k .below)) (prefix t (stop t) (t .middle) (c .right) (c .left) (ready .right) h (ready .left) m l q (omega (arith, k .is)))
+  -- one list alone, where the other is done
+  pub left-alone : (o : Pairing) → keeps o (some (c .left .at), none) ≡ true → c .left .at < t .middle → {le : ℕ} → KeyAt (t .width) (t .ends) (c .left .at) le → stop t ≤ c .right .at → Emits t o c (c .left .start) le 1
+  left-alone o keep h {le} k m = left-made o keep le (k .below) (rw (k .is) (alone t (t .middle) (stop t) (c .left) (c .right) (ready .left) h m))
 
-    pub right-alone : t .middle ≤ la → Emits t full c rs re 2
-    right-alone m = right-made re (k .below) (rw (k .is) (alone t (stop t) (t .middle) (c .right) (c .left) (ready .right) h m))
-
-  -- before p the operation says nothing
-  abbrev Early : Pairing → ℕ → Type 0
-  Early o p = (z : ℕ) → z < p → said o (at (left-of t c) z) (at (right-of t c) z) ≡ none
-
-  keeps-both : (o : Pairing) → keeps o (some la, some ra) ≡ true
-  keeps-both inner = refl
-  keeps-both left = refl
-  keeps-both full = refl
-
-  module _ (h : la < t .middle) (m : ra < stop t) {le re : ℕ} (k : KeyAt (t .width) (t .ends) la le) (j : KeyAt (t .width) (t .ends) ra re) where
-    both-made : (o : Pairing) (p q : ℕ) → Early o p → ls ≤ p → rs ≤ p → p ≤ le → p ≤ re → q ≡ min le re → Emits t o c p q 3
-    both-made o p q early a b d f e =
-        record {
-          covering = record { ready = ready; left = (h, a, omega (arith, k .is)); right = (m, b, omega (arith, j .is)) };
-          order = omega arith;
-          below = omega (arith, k .below);
-          bits = (omega arith, omega arith);
-          early = early;
-          kept = keeps-both o;
-          edge = edge (le-or-lt le re);
-        }
-      where
-        edge : (le ≤ re) ⊎ (re < le) → at (left-of t c) (q + 1) ≡ some la → at (right-of t c) (q + 1) ≡ some ra → ⊥
-        edge (inl l) g n = ends t (t .middle) 0 (c .left) (c .left) (ready .left) h q (omega (arith, k .is)) g
-        edge (inr l) g n = ends t (stop t) 0 (c .right) (c .right) (ready .right) m q (omega (arith, j .is)) n
-
-    left-before : (z : ℕ) → z < ls → at (left-of t c) z ≡ none
-    left-before = before t (t .middle) 0 (c .left) (c .left) (ready .left) h
-
-    right-before : (z : ℕ) → z < rs → at (right-of t c) z ≡ none
-    right-before = before t (stop t) 0 (c .right) (c .right) (ready .right) m
-
-    left-order : ls ≤ end-at t la
-    left-order = ordered t (t .middle) 0 (c .left) (c .left) (ready .left) h
-
-    right-order : rs ≤ end-at t ra
-    right-order = ordered t (stop t) 0 (c .right) (c .right) (ready .right) m
-
-    -- both start together
-    pub both-start : ls ≡ rs → {q : ℕ} → q ≡ min le re → Emits t full c ls q 3
-    both-start l {q} e = both-made full ls q (λ z g. let u = left-before z g in let v = right-before z (omega arith) in rw (u, v)) (omega arith) (omega arith) (omega (arith, left-order, k .is)) (omega (arith, right-order, j .is)) e
-
-    -- the right covers the left's start
-    pub left-covered : rs ≤ ls → ls ≤ re → {q : ℕ} → q ≡ min le re → Emits t left c ls q 3
-    left-covered l d {q} e = both-made left ls q (λ z g. let u = left-before z g in rw u) (omega arith) l (omega (arith, left-order, k .is)) d e
-
-    -- they share a point
-    pub overlap : ls ≤ re → rs ≤ le → {p q : ℕ} → p ≡ max ls rs → q ≡ min le re → Emits t inner c p q 3
-    overlap l d {p} {q} f e = both-made inner p q (λ z g. early z (le-or-lt ls z) g) (omega arith) (omega arith) (omega (arith, left-order, k .is)) (omega (arith, right-order, j .is)) e
-      where
-        early : (z : ℕ) → (ls ≤ z) ⊎ (z < ls) → z < p → said inner (at (left-of t c) z) (at (right-of t c) z) ≡ none
-        early z (inl g) n = let v = right-before z (omega arith) in rw v (go (at (left-of t c) z))
-          where
-            go : (a : Option ℕ) → said inner a none ≡ none
-            go none = refl
-            go (some i) = refl
-        early z (inr g) n = let u = left-before z g in rw u
-
--- a side without its range at x, which has gone
-module _ {P : Type 0} (t : Two P) (a : ℕ) (x y : Side) (u : Within 0 (high t) (side (start-at t) (end-at t) a x)) (h : x .at < a) (f : Fresh (t .width) (t .starts) a (x .at + 1) y) where
-  abbrev e : ℕ
-  e = end-at t (x .at)
-
-  is-onward : list t a y ≡ onward (start-at t) (end-at t) a (x .at + 1)
-  is-onward = side-fresh (start-at t) (end-at t) a (x .at + 1) y (f .place) (f .from)
-
-  rest-within : Within (e + 1) (high t) (list t a y)
-  rest-within = rw is-onward (onward-within (start-at t) (end-at t) a (high t) x u h)
-
-  rest-ascends : Ascends t a y
-  rest-ascends = within-low 0 (e + 1) (high t) (list t a y) (omega arith) rest-within
-
-  rest-at : (z : ℕ) → e < z → at (list t a y) z ≡ at (list t a x) z
-  rest-at z l = rw is-onward (sym (side-after (start-at t) (end-at t) a (high t) x u h z l))
-
--- what a step may go on from in place of c
-pub record Instead {P : Type 0} (t : Two P) (o : Pairing) (c d : Cursor) : Type 0 where
-  pub ready : Ready t d
-  pub same : remains t o c ≡ remains t o d
-
-pub stay : {P : Type 0} {t : Two P} (o : Pairing) {c : Cursor} → Ready t c → Instead t o c c
-stay o r = record { ready = r; same = refl }
-
-pub instead : {P : Type 0} {t : Two P} {o : Pairing} {b c d : Cursor} → Instead t o b c → Instead t o c d → Instead t o b d
-instead f g = record { ready = g .ready; same = f .same ∙ g .same }
-
--- a step from there is a step from c
-pub instead-step : {P : Type 0} {t : Two P} {o : Pairing} {c d : Cursor} → Instead t o c d → (r : Step) → Stepped t o d r → Stepped t o c r
-instead-step f Done s = f .same ∙ s
-instead-step f (Next y k) s = record { next = f .same ∙ s .next; ready = s .ready; fits = s .fits }
-
--- an operation that keeps nothing without the left, and without the right
-abbrev pub WantsLeft : Pairing → Type 0
-WantsLeft o = (b : Option ℕ) → said o none b ≡ none
-
-abbrev pub WantsRight : Pairing → Type 0
-WantsRight o = (a : Option ℕ) → said o a none ≡ none
-
-pub inner-wants-right : WantsRight inner
-inner-wants-right none = refl
-inner-wants-right (some i) = refl
-
-module _ {P : Type 0} {t : Two P} {c : Cursor} (ready : Ready t c) where
-  made-same : (o : Pairing) (d : Cursor) → Ascends t (t .middle) (d .left) → Ascends t (stop t) (d .right) → ((z : ℕ) → said o (at (left-of t d) z) (at (right-of t d) z) ≡ said o (at (left-of t c) z) (at (right-of t c) z)) → Instead t o c d
-  made-same o d u w e =
-      record {
-        ready = record { some-point = ready .some-point; ends-long = ready .ends-long; splits = ready .splits; left = u; right = w };
-        same = pair-same o (t .width .points) (high t) (ready .some-point) (omega arith) (left-of t c) (right-of t c) (ready .left) (ready .right) (left-of t d) (right-of t d) u w e;
-      }
-
-  -- a right range that ends before the left starts can go
-  pub drop-right : (o : Pairing) → WantsLeft o → c .left .at < t .middle → c .right .at < stop t → end-at t (c .right .at) < c .left .start → (y : Side) → Fresh (t .width) (t .starts) (stop t) (c .right .at + 1) y → Instead t o c (record { left = c .left; right = y })
-  drop-right o wants h m l y f = made-same o (record { left = c .left; right = y }) (ready .left) (rest-ascends t (stop t) (c .right) y (ready .right) m f) (λ z. go z (le-or-lt (c .left .start) z))
-    where
-      go : (z : ℕ) → (c .left .start ≤ z) ⊎ (z < c .left .start) → said o (at (left-of t c) z) (at (list t (stop t) y) z) ≡ said o (at (left-of t c) z) (at (right-of t c) z)
-      go z (inl k) = let i = rest-at t (stop t) (c .right) y (ready .right) m f z (omega arith) in rw i
-      go z (inr k) = let i = before t (t .middle) 0 (c .left) (c .left) (ready .left) h z k in rw i (wants _ ∙ sym (wants _))
-
-  -- a left range that ends before the right starts can go
-  pub drop-left : (o : Pairing) → WantsRight o → c .left .at < t .middle → c .right .at < stop t → end-at t (c .left .at) < c .right .start → (x : Side) → Fresh (t .width) (t .starts) (t .middle) (c .left .at + 1) x → Instead t o c (record { left = x; right = c .right })
-  drop-left o wants h m l x f = made-same o (record { left = x; right = c .right }) (rest-ascends t (t .middle) (c .left) x (ready .left) h f) (ready .right) (λ z. go z (le-or-lt (c .right .start) z))
-    where
-      go : (z : ℕ) → (c .right .start ≤ z) ⊎ (z < c .right .start) → said o (at (list t (t .middle) x) z) (at (right-of t c) z) ≡ said o (at (left-of t c) z) (at (right-of t c) z)
-      go z (inl k) = let i = rest-at t (t .middle) (c .left) x (ready .left) h f z (omega arith) in rw i
-      go z (inr k) = let i = before t (stop t) 0 (c .right) (c .right) (ready .right) m z k in rw i (wants _ ∙ sym (wants _))
+  pub right-alone : c .right .at < stop t → {re : ℕ} → KeyAt (t .width) (t .ends) (c .right .at) re → t .middle ≤ c .left .at → Emits t Full c (c .right .start) re 2
+  right-alone h {re} k m = right-made re (k .below) (rw (k .is) (alone t (stop t) (t .middle) (c .right) (c .left) (ready .right) h m))
 
   nothing : (o : Pairing) → ((z : ℕ) → said o (at (left-of t c) z) (at (right-of t c) z) ≡ none) → Stepped t o c Done
-  nothing o e = pair-none o (t .width .points) (high t) (ready .some-point) (omega arith) (left-of t c) (right-of t c) (ready .left) (ready .right) e
+  nothing o e = pair-none o (t .width .points) (left-of t c) (right-of t c) (ready .left) (ready .right) e
 
   left-gone : t .middle ≤ c .left .at → (z : ℕ) → at (left-of t c) z ≡ none
   left-gone h z = rw (side-done (start-at t) (end-at t) (t .middle) (c .left) h)
@@ -261,4 +145,131 @@ module _ {P : Type 0} {t : Two P} {c : Cursor} (ready : Ready t c) where
   right-done o wants h = nothing o (λ z. let i = right-gone h z in rw i (wants _))
 
   pub both-done : (o : Pairing) → t .middle ≤ c .left .at → stop t ≤ c .right .at → Stepped t o c Done
-  both-done o h m = nothing o (λ z. let i = left-gone h z in let j = right-gone m z in rw (i, j) (keeps-nothing o))
+  both-done o h m = nothing o (λ z. let i = left-gone h z in let j = right-gone m z in rw (i, j) (said-nothing o))
+
+  pub stay : (o : Pairing) → Instead t o c c
+  stay o = record { ready = ready; same = refl }
+
+  -- a cursor of which the operation says the same at every point
+  made-same : (o : Pairing) (d : Cursor) → Ascends t (t .middle) (d .left) → Ascends t (stop t) (d .right) → ((z : ℕ) → said o (at (left-of t d) z) (at (right-of t d) z) ≡ said o (at (left-of t c) z) (at (right-of t c) z)) → Instead t o c d
+  made-same o d u w e =
+      record {
+        ready = record { ends-long = ready .ends-long; splits = ready .splits; left = u; right = w };
+        same = pair-same o (t .width .points) (left-of t c) (right-of t c) (ready .left) (ready .right) (left-of t d) (right-of t d) u w e;
+      }
+
+-- a side without its range at x, which has gone
+module _ {P : Type 0} (t : Two P) (a : ℕ) (x y : Side) (u : Ascends t a x) (h : x .at < a) (f : Fresh (t .width) (t .starts) a (x .at + 1) y) where
+  abbrev upto : ℕ
+  upto = end-at t (x .at)
+
+  is-onward : list t a y ≡ onward (start-at t) (end-at t) a (x .at + 1)
+  is-onward = side-fresh (start-at t) (end-at t) a (x .at + 1) y (f .place) (f .from)
+
+  rest-ascends : Ascends t a y
+  rest-ascends = within-low 0 (upto + 1) (t .width .points) (list t a y) (omega arith) (rw is-onward (onward-within (start-at t) (end-at t) a (t .width .points) x u h))
+
+  rest-at : (z : ℕ) → upto < z → at (list t a y) z ≡ at (list t a x) z
+  rest-at z l = rw is-onward (sym (side-after (start-at t) (end-at t) a (t .width .points) x u h z l))
+
+module _ {P : Type 0} {t : Two P} {c : Cursor} {le re : ℕ} (b : Ranges t c le re) where
+  abbrev la : ℕ
+  la = c .left .at
+
+  abbrev ra : ℕ
+  ra = c .right .at
+
+  abbrev ls : ℕ
+  ls = c .left .start
+
+  abbrev rs : ℕ
+  rs = c .right .start
+
+  left-before : (z : ℕ) → z < ls → at (left-of t c) z ≡ none
+  left-before = before t (t .middle) (c .left) (b .ready .left) (b .left)
+
+  right-before : (z : ℕ) → z < rs → at (right-of t c) z ≡ none
+  right-before = before t (stop t) (c .right) (b .ready .right) (b .right)
+
+  left-order : ls ≤ le
+  left-order = omega (arith, ordered t (t .middle) (c .left) (b .ready .left) (b .left), b .left-end .is)
+
+  right-order : rs ≤ re
+  right-order = omega (arith, ordered t (stop t) (c .right) (b .ready .right) (b .right), b .right-end .is)
+
+  -- one list alone, up to the other's start or its own end
+  pub left-prefix : (o : Pairing) → keeps o (some la, none) ≡ true → ls < rs → {q : ℕ} → q ≡ min le (rs - 1) → Emits t o c ls q 1
+  left-prefix o keep l {q} e =
+      left-made (b .ready) o keep q (omega (arith, b .left-end .below)) (prefix t (t .middle) (stop t) (c .left) (c .right) (b .ready .left) (b .left) (b .ready .right) (b .right) l q (omega (arith, b .left-end .is)))
+
+  pub right-prefix : rs < ls → {q : ℕ} → q ≡ min re (ls - 1) → Emits t Full c rs q 2
+  right-prefix l {q} e =
+      right-made (b .ready) q (omega (arith, b .right-end .below)) (prefix t (stop t) (t .middle) (c .right) (c .left) (b .ready .right) (b .right) (b .ready .left) (b .left) l q (omega (arith, b .right-end .is)))
+
+  keeps-both : (o : Pairing) → keeps o (some la, some ra) ≡ true
+  keeps-both Inner = refl
+  keeps-both Left = refl
+  keeps-both Full = refl
+
+  -- both, from p to the earlier end, where before p the operation says nothing
+  both-made : (o : Pairing) (p q : ℕ) → ((z : ℕ) → z < p → said o (at (left-of t c) z) (at (right-of t c) z) ≡ none) → ls ≤ p → rs ≤ p → p ≤ le → p ≤ re → q ≡ min le re → Emits t o c p q 3
+  both-made o p q early a d f g e =
+      record {
+        covering = record { ready = b .ready; left = (b .left, a, omega (arith, b .left-end .is)); right = (b .right, d, omega (arith, b .right-end .is)) };
+        order = omega arith;
+        below = omega (arith, b .left-end .below);
+        bits = (omega arith, omega arith);
+        early = early;
+        kept = keeps-both o;
+        edge = edge (le-or-lt le re);
+      }
+    where
+      edge : (le ≤ re) ⊎ (re < le) → at (left-of t c) (q + 1) ≡ some la → at (right-of t c) (q + 1) ≡ some ra → ⊥
+      edge (inl l) g n = ends t (t .middle) (c .left) (b .ready .left) (b .left) q (omega (arith, b .left-end .is)) g
+      edge (inr l) g n = ends t (stop t) (c .right) (b .ready .right) (b .right) q (omega (arith, b .right-end .is)) n
+
+  -- both start together
+  pub both-start : ls ≡ rs → {q : ℕ} → q ≡ min le re → Emits t Full c ls q 3
+  both-start l {q} e =
+      both-made Full ls q (λ z g. let u = left-before z g in let v = right-before z (omega arith) in rw (u, v)) (omega arith) (omega arith) left-order (omega (arith, right-order)) e
+
+  -- the right covers the left's start
+  pub left-covered : rs ≤ ls → ls ≤ re → {q : ℕ} → q ≡ min le re → Emits t Left c ls q 3
+  left-covered l d {q} e = both-made Left ls q (λ z g. let u = left-before z g in rw u) (omega arith) l left-order d e
+
+  -- they share a point
+  pub overlap : ls ≤ re → rs ≤ le → {p q : ℕ} → p ≡ max ls rs → q ≡ min le re → Emits t Inner c p q 3
+  overlap l d {p} {q} f e = both-made Inner p q (λ z g. early z (le-or-lt ls z) g) (omega arith) (omega arith) (omega (arith, left-order)) (omega (arith, right-order)) e
+    where
+      early : (z : ℕ) → (ls ≤ z) ⊎ (z < ls) → z < p → said Inner (at (left-of t c) z) (at (right-of t c) z) ≡ none
+      early z (inl g) n = let v = right-before z (omega arith) in rw v (inner-wants-right (at (left-of t c) z))
+      early z (inr g) n = let u = left-before z g in rw u
+
+  -- a range that ends before the other starts can go, where the operation wants the other
+  pub drop-right : (o : Pairing) → WantsLeft o → re < ls → {y : Side} → Fresh (t .width) (t .starts) (stop t) (ra + 1) y → Instead t o c (record { left = c .left; right = y })
+  drop-right o wants l {y} f =
+      made-same (b .ready) o (record { left = c .left; right = y }) (b .ready .left) (rest-ascends t (stop t) (c .right) y (b .ready .right) (b .right) f) (λ z. go z (le-or-lt ls z))
+    where
+      go : (z : ℕ) → (ls ≤ z) ⊎ (z < ls) → said o (at (left-of t c) z) (at (list t (stop t) y) z) ≡ said o (at (left-of t c) z) (at (right-of t c) z)
+      go z (inl k) = let i = rest-at t (stop t) (c .right) y (b .ready .right) (b .right) f z (omega (arith, b .right-end .is)) in rw i
+      go z (inr k) = let i = left-before z k in rw i (wants _ ∙ sym (wants _))
+
+  pub drop-left : (o : Pairing) → WantsRight o → le < rs → {x : Side} → Fresh (t .width) (t .starts) (t .middle) (la + 1) x → Instead t o c (record { left = x; right = c .right })
+  drop-left o wants l {x} f =
+      made-same (b .ready) o (record { left = x; right = c .right }) (rest-ascends t (t .middle) (c .left) x (b .ready .left) (b .left) f) (b .ready .right) (λ z. go z (le-or-lt rs z))
+    where
+      go : (z : ℕ) → (rs ≤ z) ⊎ (z < rs) → said o (at (list t (t .middle) x) z) (at (right-of t c) z) ≡ said o (at (left-of t c) z) (at (right-of t c) z)
+      go z (inl k) = let i = rest-at t (t .middle) (c .left) x (b .ready .left) (b .left) f z (omega (arith, b .left-end .is)) in rw i
+      go z (inr k) = let i = right-before z k in rw i (wants _ ∙ sym (wants _))
+
+module _ {P : Type 0} {t : Two P} {o : Pairing} where
+  pub instead : {b c d : Cursor} → Instead t o b c → Instead t o c d → Instead t o b d
+  instead f g = record { ready = g .ready; same = f .same ∙ g .same }
+
+  -- a step from there is a step from c
+  instead-step : {c d : Cursor} → Instead t o c d → (r : NextPair) → Stepped t o d r → Stepped t o c r
+  instead-step f Done s = f .same ∙ s
+  instead-step f (Next y k) s = record { next = f .same ∙ s .next; ready = s .ready; fits = s .fits }
+
+  pub instead-emitted : {c d : Cursor} {p q x : ℕ} → Instead t o c d → Emits t o d p q x → (r : NextPair) → Taken t d p q x r → Stepped t o c r
+  instead-emitted f m r s = instead-step f r (emitted m r s)

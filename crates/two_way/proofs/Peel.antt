@@ -7,14 +7,13 @@ use mathlib.Core.Option.{Option, none, some}
 use mathlib.Core.List.{List, [], _∷_}
 use native.Mathlib.Omega.{arith}
 use Rattle.rules.specs.Piece.{Piece, at, Within, Apart}
-use Rattle.rules.specs.TwoWay.{Pairing, Match, keeps, paired}
+use Rattle.rules.specs.TwoWay.{Match, keeps, paired}
 use Rattle.rules.specs.Proving.Below.{Below}
+use Rattle.rules.specs.declared.Pairing.{Pairing}
+use Rattle.rules.specs.declared.Pairing.the-variants.{Inner, Left, Full}
 use Rattle.rules.proofs.At.{at-in, at-before, at-after, at-late, le-or-lt}
+use Rattle.rules.proofs.Same.{none≢some}
 use Rattle.rules.proofs.TwoWay.{paired-cut, paired-only}
-use Rattle.two_way.proofs.Line.{paired-any}
-
-pub none-some : {A : Type 0} {a : A} {o : Option A} → o ≡ none → o ≡ some a → ⊥
-none-some p q = let z : _≡_ {A = ℕ} 0 1 = cc in omega arith
 
 module _ {A : Type 0} where
   -- a list that has nothing before c starts there or later
@@ -24,7 +23,7 @@ module _ {A : Type 0} where
     where
       go : (c ≤ x .start) ⊎ (x .start < c) → c ≤ x .start
       go (inl l) = l
-      go (inr l) = absurd (none-some (g (x .start) l) (at-in x xs (x .start) (omega arith) (w .1)))
+      go (inr l) = absurd (none≢some (x .value) (sym (g (x .start) l) ∙ at-in x xs (x .start) (omega arith) (w .1)))
 
   apart-from : (b n c : ℕ) (v : A) (xs : List (Piece A)) → Within b n xs → (at xs c ≡ some v → ⊥) → Apart c v xs
   apart-from b n c v [] w g = tt
@@ -48,7 +47,7 @@ module _ {B : Type 0} (n p q : ℕ) (v : B) (f g : ℕ → Option B) (s : Peels 
   peel-edge e = go (le-or-lt n (q + 1))
     where
       go : (n ≤ q + 1) ⊎ (q + 1 < n) → ⊥
-      go (inl m) = none-some (at-late 0 n ys (b .canonical .0) (q + 1) m) e
+      go (inl m) = none≢some v (sym (at-late 0 n ys (b .canonical .0) (q + 1) m) ∙ e)
       go (inr m) = s .edge (sym (s .kept (q + 1) (omega arith)) ∙ sym (b .agrees (q + 1) m) ∙ e)
 
   peel-at : (z : ℕ) → z < n → at (piece ∷ ys) z ≡ f z
@@ -77,19 +76,25 @@ said-back o a b m e = go (keeps o (a, b)) e
   where
     go : (t : Bool) → cond t (some (a, b)) none ≡ some m → (a ≡ m .0) × (b ≡ m .1)
     go true e = let k : _≡_ {A = Match} (a, b) m = cc in (ap (λ (m : Match). m .0) k, ap (λ (m : Match). m .1) k)
-    go false e = absurd (none-some refl e)
+    go false e = absurd (none≢some m e)
 
--- over n points, of lists that are well formed over no fewer
-module _ (o : Pairing) (n high : ℕ) (h : 0 < n) (k : n ≤ high) (l r : List (Piece ℕ)) (u : Within 0 high l) (w : Within 0 high r) where
+-- nothing is said of what neither list has
+pub said-nothing : (o : Pairing) → said o none none ≡ none
+said-nothing Inner = refl
+said-nothing Left = refl
+said-nothing Full = refl
+
+-- two lists over n points
+module _ (o : Pairing) (n : ℕ) (l r : List (Piece ℕ)) (u : Within 0 n l) (w : Within 0 n r) where
   pub pair-none : ((z : ℕ) → said o (at l z) (at r z) ≡ none) → paired o n (l ∷ r ∷ []) ≡ []
-  pair-none e = paired-any o n high h k l r u w ∙ sym (paired-only o high l r u w [] (record { canonical = (omega arith, tt); agrees = λ p m. sym (e p) }))
+  pair-none e = sym (paired-only o n l r u w [] (record { canonical = (omega arith, tt); agrees = λ p m. sym (e p) }))
 
-  module _ (l' r' : List (Piece ℕ)) (u' : Within 0 high l') (w' : Within 0 high r') where
-    rest : Below high (paired o n (l' ∷ r' ∷ [])) (λ z. said o (at l' z) (at r' z))
-    rest = rw (paired-any o n high h k l' r' u' w') (paired-cut o high l' r' u' w')
+  module _ (l' r' : List (Piece ℕ)) (u' : Within 0 n l') (w' : Within 0 n r') where
+    rest : Below n (paired o n (l' ∷ r' ∷ [])) (λ z. said o (at l' z) (at r' z))
+    rest = paired-cut o n l' r' u' w'
 
     pub pair-same : ((z : ℕ) → said o (at l' z) (at r' z) ≡ said o (at l z) (at r z)) → paired o n (l ∷ r ∷ []) ≡ paired o n (l' ∷ r' ∷ [])
-    pair-same e = paired-any o n high h k l r u w ∙ sym (paired-only o high l r u w _ (record { canonical = rest .canonical; agrees = λ p m. rest .agrees p m ∙ e p }))
+    pair-same e = sym (paired-only o n l r u w _ (record { canonical = rest .canonical; agrees = λ p m. rest .agrees p m ∙ e p }))
 
-    pub pair-peel : (p q : ℕ) (v : Match) → Peels high p q v (λ z. said o (at l z) (at r z)) (λ z. said o (at l' z) (at r' z)) → paired o n (l ∷ r ∷ []) ≡ record { start = p; end = q; value = v } ∷ paired o n (l' ∷ r' ∷ [])
-    pair-peel p q v s = paired-any o n high h k l r u w ∙ sym (paired-only o high l r u w _ (peel-below high p q v _ _ s _ rest))
+    pub pair-peel : (p q : ℕ) (v : Match) → Peels n p q v (λ z. said o (at l z) (at r z)) (λ z. said o (at l' z) (at r' z)) → paired o n (l ∷ r ∷ []) ≡ record { start = p; end = q; value = v } ∷ paired o n (l' ∷ r' ∷ [])
+    pair-peel p q v s = sym (paired-only o n l r u w _ (peel-below n p q v _ _ s _ rest))

@@ -11,10 +11,10 @@ use Rattle.rules.specs.Piece.{Piece, at, Within}
 use Rattle.rules.specs.Lists.{range, ranges}
 use Rattle.rules.proofs.At.{at-in, at-before, at-after, at-early, within-le, le-or-lt}
 use Rattle.rules.proofs.Columns.{ranges-done}
+use Rattle.rules.proofs.Same.{none≢some}
 use Rattle.rules.proofs.TwoWay.{within-low}
 use Rattle.two_way.specs.Sides.{side, onward, past}
 use Rattle.two_way.specs.declared.Side.{Side}
-use Rattle.two_way.proofs.Peel.{none-some}
 
 module _ (s e : ℕ → ℕ) (stop : ℕ) where
   pub side-more : (c : Side) → c .at < stop → side s e stop c ≡ record { start = c .start; end = e (c .at); value = c .at } ∷ onward s e stop (c .at + 1)
@@ -33,7 +33,7 @@ module _ (s e : ℕ → ℕ) (stop : ℕ) where
 
   -- the places rise
   at-ranges : (i n q k : ℕ) → at (ranges s e (λ j. j) i n) q ≡ some k → i ≤ k
-  at-ranges i zero q k h = absurd (none-some refl h)
+  at-ranges i zero q k h = absurd (none≢some k h)
   at-ranges i (suc n) q k h = go (λ g. at-ranges (suc i) n q k g) (le-or-lt (s i) q) (le-or-lt q (e i))
     where
       x : Piece ℕ

@@ -1,4 +1,3 @@
--- What the contracts of the two-way joins say of sides, steps and columns.
+-- What the contracts say of two lists: what is left of them, and the piece that comes next.
 pub mod Sides
 pub mod Steps
-pub mod Columns

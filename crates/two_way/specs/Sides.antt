@@ -6,18 +6,12 @@ use mathlib.Core.List.{List, [], _∷_}
 use lib.Dec.{ltb, eqb}
 use lib.ListN.{length}
 use Rattle.rules.specs.Piece.{Piece}
-use Rattle.rules.specs.Lists.{Width, ranges, keys}
-use Rattle.rules.specs.TwoWay.{Pairing, inner, left, full, Match, paired}
-use Rattle.two_way.specs.declared.Join.{Join}
-use Rattle.two_way.specs.declared.Join.the-variants.{Inner, Left, Full}
+use Rattle.rules.specs.Lists.{Width, Column, Columns, ranges, keys}
+use Rattle.rules.specs.TwoWay.{Match, paired}
+use Rattle.rules.specs.declared.Pairing.{Pairing}
 use Rattle.two_way.specs.declared.Side.{Side}
 use Rattle.two_way.specs.declared.Cursor.{Cursor}
-use Rattle.two_way.specs.declared.Piece.{Piece as Found}
-
-abbrev pub pairing-of : Join → Pairing
-pairing-of Inner = inner
-pairing-of Left = left
-pairing-of Full = full
+use Rattle.two_way.specs.declared.Pair.{Pair}
 
 -- the place of a side, unless it is missing
 abbrev pub unless : Bool → ℕ → Option ℕ
@@ -32,17 +26,18 @@ abbrev pub no-right : ℕ → Bool
 no-right x = eqb x 1
 
 -- a piece as the rules have it
-abbrev pub piece-of : Found → Piece Match
+abbrev pub piece-of : Pair → Piece Match
 piece-of x = record { start = x .start; end = x .end; value = (unless (no-left (x .presence)) (x .left), unless (no-right (x .presence)) (x .right)) }
 
 module _ (s e : ℕ → ℕ) (stop : ℕ) where
-  -- what is left of a list at places up to but not stop: the range at i from the point f on, and the ranges after it
-  abbrev pub held : ℕ → ℕ → ℕ → List (Piece ℕ)
-  held i f zero = []
-  held i f (suc n) = record { start = f; end = e i; value = i } ∷ ranges s e (λ k. k) (suc i) n
+  -- what is left of a list with n ranges left: the range at i from the point f on, and the ranges after it
+  abbrev pub rest-from : ℕ → ℕ → ℕ → List (Piece ℕ)
+  rest-from i f zero = []
+  rest-from i f (suc n) = record { start = f; end = e i; value = i } ∷ ranges s e (λ k. k) (suc i) n
 
+  -- of a list at places up to but not stop
   abbrev pub side : Side → List (Piece ℕ)
-  side c = held (c .at) (c .start) (stop - c .at)
+  side c = rest-from (c .at) (c .start) (stop - c .at)
 
   -- the ranges from place i on
   abbrev pub onward : ℕ → List (Piece ℕ)
@@ -64,8 +59,15 @@ pub record Two (P : Type 0) : Type 0 where
   pub ends : List P
   pub middle : ℕ
 
-abbrev pub two : {P : Type 0} → Width P → List P → List P → ℕ → Two P
-two w s e m = record { width = w; starts = s; ends = e; middle = m }
+abbrev pub two-of : {P : Type 0} → Width P → List P → List P → ℕ → Two P
+two-of w s e m = record { width = w; starts = s; ends = e; middle = m }
+
+-- in a precondition, and in a promise
+abbrev pub two : {P : Type 0} → Width P → Column P → Column P → ℕ → Two P
+two w s e m = two-of w (s .now) (e .now) m
+
+abbrev pub two-given : {P : Type 0} → Width P → Columns P → Columns P → ℕ → Two P
+two-given w s e m = two w (s .entry) (e .entry) m
 
 module _ {P : Type 0} (t : Two P) where
   abbrev pub start-at : ℕ → ℕ
@@ -84,9 +86,6 @@ module _ {P : Type 0} (t : Two P) where
   abbrev pub right-of : Cursor → List (Piece ℕ)
   right-of c = side start-at end-at stop (c .right)
 
-  -- the pieces that are still to come, and all of them
+  -- the pieces that are still to come
   abbrev pub remains : Pairing → Cursor → List (Piece Match)
   remains o c = paired o (t .width .points) (left-of c ∷ right-of c ∷ [])
-
-  abbrev pub all : Pairing → List (Piece Match)
-  all o = paired o (t .width .points) (onward start-at end-at (t .middle) 0 ∷ onward start-at end-at stop (t .middle) ∷ [])

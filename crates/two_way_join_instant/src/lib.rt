@@ -1,65 +1,58 @@
+// The two-way joins over lent columns: inner, left and full.
+
 use form_instant::judge;
 use integer::instant::Point;
 use rules::Answer;
 use rules::Judgement;
 use rules::Kind;
-use two_way::Join;
-use two_way::enough;
-use two_way::first_count;
-use two_way::shortest;
+use rules::Pairing;
+use two_way_join::enough;
+use two_way_join::shortest;
 use two_way_pass_instant::pass;
 ghost use mathlib.Core.Path.{_≡_};
-ghost use Rattle.rules.specs.Lists.{instants, lent};
+ghost use Rattle.rules.specs.Lists.{instants, given};
 ghost use Rattle.rules.specs.Answer.{leaves};
-ghost use Rattle.rules.specs.TwoWay.{inner, left, full};
-ghost use Rattle.rules.specs.Outcomes.{paired-room, pairing};
-ghost use Rattle.two_way.specs.Sides.{pairing-of, two};
-ghost use Rattle.two_way.specs.Columns.{columns, Formed, Joined};
+ghost use Rattle.rules.specs.Paired.{before, after};
+ghost use Rattle.rules.specs.Outcomes.{pairing};
+ghost use Rattle.rules.specs.declared.Pairing.the-variants.{Inner, Left, Full};
 
-// How many pieces the columns have room for.
-fn room_of(
-    out_start: &[Point],
-    out_end: &[Point],
-    out_left: &[i32],
-    out_right: &[i32],
-    out_presence: &[u8],
-) -> usize
-    ensures { λ r. ⌜ r ≡ paired-room instants (columns (now («out_start» .entry)) (now («out_end» .entry)) (now («out_left» .entry)) (now («out_right» .entry)) (now («out_presence» .entry))) ⌝ }
-{
-    shortest(
-        out_start.len(),
-        out_end.len(),
-        out_left.len(),
-        out_right.len(),
-        out_presence.len(),
-    )
-}
-
-// Writes all pieces where there is room for them. Where the room may not do, a counting pass tells how many there are.
-fn write_all(
-    join: Join,
+// The join that is asked for: what is refused, or all pieces, where there is room for them. Where the room may not do, a counting
+// pass tells how many there are.
+fn join_lists(
+    asked: Pairing,
     starts: &[Point],
     ends: &[Point],
     values: &[i32],
-    m: usize,
+    counts: &[u32],
     out_start: &mut [Point],
     out_end: &mut [Point],
     out_left: &mut [i32],
     out_right: &mut [i32],
     out_presence: &mut [u8],
 ) -> Answer
-    requires { ⌜ Formed (two instants (now starts) (now ends) m) (now values) ⌝ }
-    ensures { λ r. ⌜ Joined (two instants (now (starts .entry)) (now (ends .entry)) m) (pairing-of join) (now (values .entry)) (columns (now («out_start» .entry)) (now («out_end» .entry)) (now («out_left» .entry)) (now («out_right» .entry)) (now («out_presence» .entry))) (columns (now («out_start» .exit)) (now («out_end» .exit)) (now («out_left» .exit)) (now («out_right» .exit)) (now («out_presence» .exit))) r ⌝ }
+    ensures { λ r. ⌜
+        leaves r (after «out_start» «out_end» «out_left» «out_right» «out_presence»)
+        ≡ pairing instants asked (given starts ends values counts) (before «out_start» «out_end» «out_left» «out_right» «out_presence») ⌝ }
 {
-    let room = room_of(out_start, out_end, out_left, out_right, out_presence);
+    let judged = judge(Kind::TwoWay, starts, ends, values, counts);
+    if let Judgement::Refused(answer) = judged {
+        return answer;
+    }
+    let room = shortest(
+        out_start.len(),
+        out_end.len(),
+        out_left.len(),
+        out_right.len(),
+        out_presence.len(),
+    );
     let mut sure = enough(starts.len()) <= room;
     loop {
         let count = pass(
-            join,
+            asked,
             starts,
             ends,
             values,
-            m,
+            counts,
             sure,
             out_start,
             out_end,
@@ -77,40 +70,6 @@ fn write_all(
     }
 }
 
-// A two-way join of the lists that are lent.
-fn join_lists(
-    join: Join,
-    starts: &[Point],
-    ends: &[Point],
-    values: &[i32],
-    counts: &[u32],
-    out_start: &mut [Point],
-    out_end: &mut [Point],
-    out_left: &mut [i32],
-    out_right: &mut [i32],
-    out_presence: &mut [u8],
-) -> Answer
-    ensures { λ r. ⌜ leaves r (columns (now («out_start» .exit)) (now («out_end» .exit)) (now («out_left» .exit)) (now («out_right» .exit)) (now («out_presence» .exit))) ≡ pairing instants (pairing-of join) (lent (now (starts .entry)) (now (ends .entry)) (now (values .entry)) (now (counts .entry))) (columns (now («out_start» .entry)) (now («out_end» .entry)) (now («out_left» .entry)) (now («out_right» .entry)) (now («out_presence» .entry))) ⌝ }
-{
-    let found = judge(Kind::TwoWay, starts, ends, values, counts);
-    if let Judgement::Refused(answer) = found {
-        return answer;
-    }
-    let m = first_count(counts);
-    write_all(
-        join,
-        starts,
-        ends,
-        values,
-        m,
-        out_start,
-        out_end,
-        out_left,
-        out_right,
-        out_presence,
-    )
-}
-
 // The inner join of two lists: every run that a range of both covers.
 pub fn inner_join(
     starts: &[Point],
@@ -123,10 +82,12 @@ pub fn inner_join(
     out_right: &mut [i32],
     out_presence: &mut [u8],
 ) -> Answer
-    ensures { λ r. ⌜ leaves r (columns (now («out_start» .exit)) (now («out_end» .exit)) (now («out_left» .exit)) (now («out_right» .exit)) (now («out_presence» .exit))) ≡ pairing instants inner (lent (now (starts .entry)) (now (ends .entry)) (now (values .entry)) (now (counts .entry))) (columns (now («out_start» .entry)) (now («out_end» .entry)) (now («out_left» .entry)) (now («out_right» .entry)) (now («out_presence» .entry))) ⌝ }
+    ensures { λ r. ⌜
+        leaves r (after «out_start» «out_end» «out_left» «out_right» «out_presence»)
+        ≡ pairing instants Inner (given starts ends values counts) (before «out_start» «out_end» «out_left» «out_right» «out_presence») ⌝ }
 {
     join_lists(
-        Join::Inner,
+        Pairing::Inner,
         starts,
         ends,
         values,
@@ -151,10 +112,12 @@ pub fn left_join(
     out_right: &mut [i32],
     out_presence: &mut [u8],
 ) -> Answer
-    ensures { λ r. ⌜ leaves r (columns (now («out_start» .exit)) (now («out_end» .exit)) (now («out_left» .exit)) (now («out_right» .exit)) (now («out_presence» .exit))) ≡ pairing instants left (lent (now (starts .entry)) (now (ends .entry)) (now (values .entry)) (now (counts .entry))) (columns (now («out_start» .entry)) (now («out_end» .entry)) (now («out_left» .entry)) (now («out_right» .entry)) (now («out_presence» .entry))) ⌝ }
+    ensures { λ r. ⌜
+        leaves r (after «out_start» «out_end» «out_left» «out_right» «out_presence»)
+        ≡ pairing instants Left (given starts ends values counts) (before «out_start» «out_end» «out_left» «out_right» «out_presence») ⌝ }
 {
     join_lists(
-        Join::Left,
+        Pairing::Left,
         starts,
         ends,
         values,
@@ -179,10 +142,12 @@ pub fn full_join(
     out_right: &mut [i32],
     out_presence: &mut [u8],
 ) -> Answer
-    ensures { λ r. ⌜ leaves r (columns (now («out_start» .exit)) (now («out_end» .exit)) (now («out_left» .exit)) (now («out_right» .exit)) (now («out_presence» .exit))) ≡ pairing instants full (lent (now (starts .entry)) (now (ends .entry)) (now (values .entry)) (now (counts .entry))) (columns (now («out_start» .entry)) (now («out_end» .entry)) (now («out_left» .entry)) (now («out_right» .entry)) (now («out_presence» .entry))) ⌝ }
+    ensures { λ r. ⌜
+        leaves r (after «out_start» «out_end» «out_left» «out_right» «out_presence»)
+        ≡ pairing instants Full (given starts ends values counts) (before «out_start» «out_end» «out_left» «out_right» «out_presence») ⌝ }
 {
     join_lists(
-        Join::Full,
+        Pairing::Full,
         starts,
         ends,
         values,

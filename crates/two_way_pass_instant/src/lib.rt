@@ -1,33 +1,63 @@
-use integer::instant::Point;
-use two_way::Cursor;
-use two_way::Join;
-use two_way::Step;
-use two_way_instant::begin;
-use two_way_instant::put;
-ghost use Rattle.rules.specs.Lists.{instants};
-ghost use Rattle.two_way.specs.Sides.{pairing-of, two};
-ghost use Rattle.two_way.specs.Steps.{Ready, Stepped};
-ghost use Rattle.two_way.specs.Columns.{columns, Formed, Room, Passed};
+// One pass over all pieces of a two-way join, which counts them, and writes them where it is told to.
 
-// The next piece of a join, and what is left then.
-fn next_piece(join: Join, starts: &[Point], ends: &[Point], m: usize, cursor: Cursor) -> Step
-    requires { ⌜ Ready (two instants (now starts) (now ends) m) cursor ⌝ }
-    ensures { λ r. ⌜ Stepped (two instants (now (starts .entry)) (now (ends .entry)) m) (pairing-of join) cursor r ⌝ }
+use integer::instant::Point;
+use integer::instant::put_key;
+use rules::Pairing;
+use two_way::LEFT;
+use two_way::NextPair;
+use two_way::Pair;
+use two_way::RIGHT;
+use two_way_pass::first_count;
+use two_way_pass::value_at;
+use two_way_instant::next_piece;
+use two_way_instant::side::begin;
+ghost use mathlib.Core.Path.{_≡_};
+ghost use mathlib.Core.Bool.{true};
+ghost use Rattle.rules.specs.Lists.{instants, lent, given};
+ghost use Rattle.rules.specs.Paired.{output, before, after};
+ghost use Rattle.rules.specs.Refusals.{Formed};
+ghost use Rattle.rules.specs.declared.Kind.the-variants.{TwoWay};
+ghost use Rattle.two_way_pass.specs.Columns.{Writable, PutPair, Roomy, Passed};
+
+// Writes a piece at a place of the columns, where it is to be written; values are read here alone.
+fn put(
+    values: &[i32],
+    write: bool,
+    place: usize,
+    pair: Pair,
+    out_start: &mut [Point],
+    out_end: &mut [Point],
+    out_left: &mut [i32],
+    out_right: &mut [i32],
+    out_presence: &mut [u8],
+)
+    requires { ⌜ (write ≡ true →
+        Writable instants (now values) place pair (output «out_start» «out_end» «out_left» «out_right» «out_presence»)) ⌝ }
+    ensures { λ _. ⌜ PutPair instants (now (values .entry)) write place pair
+        (before «out_start» «out_end» «out_left» «out_right» «out_presence»)
+        (after «out_start» «out_end» «out_left» «out_right» «out_presence») ⌝ }
 {
-    match join {
-        Join::Inner => inner_join_instant::next_piece(starts, ends, m, cursor),
-        Join::Left => left_join_instant::next_piece(starts, ends, m, cursor),
-        Join::Full => full_join_instant::next_piece(starts, ends, m, cursor),
+    if write {
+        let start = pair.start;
+        let end = pair.end;
+        let left = pair.left;
+        let right = pair.right;
+        let presence = pair.presence;
+        put_key(out_start, place, start);
+        put_key(out_end, place, end);
+        out_left[place] = value_at(values, presence == RIGHT, left);
+        out_right[place] = value_at(values, presence == LEFT, right);
+        out_presence[place] = presence as u8;
     }
 }
 
-// All pieces of two lists, of which the left lies at the places below m: how many there are. They are written where `write` says so.
+// All pieces of two lists: how many there are. They are written where `write` says so.
 pub fn pass(
-    join: Join,
+    asked: Pairing,
     starts: &[Point],
     ends: &[Point],
     values: &[i32],
-    m: usize,
+    counts: &[u32],
     write: bool,
     out_start: &mut [Point],
     out_end: &mut [Point],
@@ -35,29 +65,33 @@ pub fn pass(
     out_right: &mut [i32],
     out_presence: &mut [u8],
 ) -> usize
-    requires formed { ⌜ Formed (two instants (now starts) (now ends) m) (now values) ⌝ }
-    requires roomy { ⌜ Room (two instants (now starts) (now ends) m) (pairing-of join) write (columns (now «out_start») (now «out_end») (now «out_left») (now «out_right») (now «out_presence»)) ⌝ }
-    ensures { λ r. ⌜ Passed (two instants (now (starts .entry)) (now (ends .entry)) m) (pairing-of join) (now (values .entry)) write (columns (now («out_start» .entry)) (now («out_end» .entry)) (now («out_left» .entry)) (now («out_right» .entry)) (now («out_presence» .entry))) (columns (now («out_start» .exit)) (now («out_end» .exit)) (now («out_left» .exit)) (now («out_right» .exit)) (now («out_presence» .exit))) r ⌝ }
+    requires formed { ⌜ Formed instants TwoWay (lent starts ends values counts) ⌝ }
+    requires roomy { ⌜ Roomy instants asked (lent starts ends values counts) write
+        (output «out_start» «out_end» «out_left» «out_right» «out_presence») ⌝ }
+    ensures { λ r. ⌜ Passed instants asked (given starts ends values counts) write
+        (before «out_start» «out_end» «out_left» «out_right» «out_presence»)
+        (after «out_start» «out_end» «out_left» «out_right» «out_presence») r ⌝ }
 {
-    let mut cursor = begin(starts, m);
+    let middle = first_count(counts);
+    let mut cursor = begin(starts, middle);
     let mut count: usize = 0;
     loop {
-        let step = next_piece(join, starts, ends, m, cursor);
-        let Step::Piece(piece, next) = step else {
+        let next = next_piece(asked, starts, ends, middle, cursor);
+        let NextPair::Next(pair, rest) = next else {
             return count;
         };
         put(
             values,
             write,
             count,
-            piece,
+            pair,
             out_start,
             out_end,
             out_left,
             out_right,
             out_presence,
         );
-        cursor = next;
+        cursor = rest;
         count += 1;
     }
 }

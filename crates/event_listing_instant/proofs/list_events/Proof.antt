@@ -11,7 +11,7 @@ list-events-spec =
     (tie.spec
     (λ c κs. search needs)
     (λ c. search needs)
-    (λ c. refused instants _ (c .before .before .before .judge .ensures) (c .before .found .given .1))
+    (λ c. refused instants _ (c .before .before .before .judge .ensures) (c .before .judged .given .1))
     (λ c. search needs)
     (λ c. search needs)
     (λ c κs. search needs)

@@ -1,6 +1,7 @@
 -- `join_sweep_instant::first_event` meets its contract. Assumes nothing.
 use borrow.Author.Needs.{needs}
-use Rattle.join_sweep.proofs.Turns.{stepped-ready}
+use Rattle.rules.specs.Lists.{instants}
+use Rattle.join_sweep.proofs.Turns.{stepped-ready, formed-sweeps}
 use Rattle.join_sweep_instant.proofs.first_event.Statement.{statement}
 use Rattle.join_sweep_instant.proofs.first_event.Tie as tie
 
@@ -8,6 +9,6 @@ pub first-event-spec : {M : Type 1} → statement M
 first-event-spec =
     tie.close
     (tie.spec
-    (λ c κs. search needs)
-    (λ c κs. let f : tie.After-fill = search in let a : tie.Start = search in (_, f .fill .ensures _ _ (a .pre .1 .ends-whole) _ _ (a .pre .0 .starts-long) (a .pre .0 .ends-long) (a .pre .0 .formed)))
-    (λ c. let f : tie.After-fill = search in let a : tie.Start = search in stepped-ready (f .fill .ensures _ _ (a .pre .1 .ends-whole) _ _ (a .pre .0 .starts-long) (a .pre .0 .ends-long) (a .pre .0 .formed)) (c .step .ensures)))
+    (λ c κs. let a : tie.Start = search in record { few = a .pre .0 .1 .lists-few; adds-up = a .pre .0 .1 .agree .adds-up; cursors-long = a .pre .1 .cursors-long; whole = a .pre .1 .starts-whole })
+    (λ c κs. let f : tie.After-fill = search in let a : tie.Start = search in (_, formed-sweeps instants (a .pre .0 .1) (a .pre .1) (f .fill .ensures)))
+    (λ c. let f : tie.After-fill = search in let a : tie.Start = search in stepped-ready (formed-sweeps instants (a .pre .0 .1) (a .pre .1) (f .fill .ensures)) (c .step .ensures)))

@@ -18,7 +18,7 @@ use Rattle.join_sweep.proofs.First.{begins-at, over, ahead, stretch}
 use Rattle.join_sweep_seat.proofs.next_stretch.Statement.{statement}
 use Rattle.join_sweep_seat.proofs.next_stretch.Tie as tie
 
-abbrev reading : List ℕ → List ℕ → List ℤ → Reading ℕ
+abbrev reading : {P : Type 0} → List P → List P → List ℤ → Reading P
 reading starts ends values = record { starts = starts; ends = ends; values = values }
 
 abbrev arrays : List ℕ → List ℕ → List ℕ → List ℕ → List ℕ → Arrays

@@ -1,0 +1,80 @@
+-- From the judgement of what is lent and the passes to the outcome of a two-way join. Assumes nothing.
+use Prim.Native.Nat.{ℕ, _-_, _*_, _≤_, _<_}
+use mathlib.Core.Path.{_≡_, refl, sym, ap, _∙_}
+use mathlib.Core.Bool.{Bool, true, false}
+use native.Mathlib.Omega.{arith}
+use native.Mathlib.Nat.{le-trans}
+use lib.Dec.{leb}
+use borrow.Author.Tests.{leb-true}
+use lib.ListN.{length}
+use Rattle.form.specs.Shape.{Judged}
+use Rattle.rules.specs.Lists.{Width, Lent}
+use Rattle.rules.specs.Answer.{judge, leaves, settle}
+use Rattle.rules.specs.Paired.{Paired, lengths, room}
+use Rattle.rules.specs.Outcomes.{pairing}
+use Rattle.rules.specs.Refusals.{Formed}
+use Rattle.rules.specs.Proving.Long.{Long}
+use Rattle.rules.specs.declared.Pairing.{Pairing}
+use Rattle.rules.specs.declared.Answer.{Answer}
+use Rattle.rules.specs.declared.Answer.the-variants.{Done, NoRoom}
+use Rattle.rules.specs.declared.Judgement.{Judgement}
+use Rattle.rules.specs.declared.Judgement.the-variants.{Sound, Refused}
+use Rattle.rules.specs.declared.Kind.the-variants.{TwoWay}
+use Rattle.rules.proofs.Passes.{Turn, settled-done, settled-not, turn-again}
+use Rattle.two_way_pass.specs.Pairs.{pairs}
+use Rattle.two_way_pass.specs.Columns.{lays, Roomy, Passed}
+use Rattle.two_way_pass.proofs.Laying.{lays-long}
+use Rattle.two_way_pass.proofs.Lists.{pairs-upto}
+
+-- before a pass the lists are sound and nothing is written yet: the room, the columns at first, and now
+pub record Turns {P : Type 0} (w : Width P) (o : Pairing) (l : Lent P) (space : ℕ) (c d : Paired P) (write : Bool) : Type 0 where
+  pub sound : judge w TwoWay l ≡ Sound
+  pub formed : Formed w TwoWay l
+  pub space-is : space ≡ room c
+  pub turn : Turn (length (pairs w o l)) (room c) c d write
+
+module _ {P : Type 0} {w : Width P} {l : Lent P} {r : Judgement} (j : Judged w TwoWay l r) where
+  -- what is refused leaves the columns
+  pub refused : (o : Pairing) {a : Answer} {c : Paired P} → r ≡ Refused a → leaves a c ≡ pairing w o l c
+  unfolding pairing
+  refused o q = let h = sym (j .is) ∙ q in rw h
+
+  -- the first pass writes where there is room for as many pieces as there can be
+  pub turns-first : r ≡ Sound → {most : ℕ} → most ≡ 2 * length (l .starts) - 1 → (o : Pairing) {c : Paired P} {space : ℕ} → space ≡ room c → Turns w o l space c c (leb most space)
+  turns-first s {most} e o {c} {space} q =
+      record {
+        sound = sym (j .is) ∙ s;
+        formed = j .passes s;
+        space-is = q;
+        turn = record { kept = refl; enough = λ h. le-trans (pairs-upto (j .passes s) o) (omega (arith, leb-true most space h)) };
+      }
+
+module _ {P : Type 0} {w : Width P} {o : Pairing} {l : Lent P} {space : ℕ} {c d : Paired P} {write : Bool} (i : Turns w o l space c d write) where
+  pub turns-room : Roomy w o l write d
+  turns-room = rw (i .turn .kept) (record { enough = i .turn .enough })
+
+  -- the columns with all pieces, where they are written
+  abbrev done : Bool → Paired P → Paired P
+  done b = lays w (l .values) b 0 (pairs w o l)
+
+  -- the outcome where nothing is refused before
+  settles : settle Sound (length (pairs w o l)) (room c) c (done true c) ≡ pairing w o l c
+  unfolding pairing
+  settles = rw (i .sound)
+
+  module _ {d' : Paired P} {n : ℕ} (p : Passed w o l write d d' n) where
+    pub turns-long : Long (lengths d') (lengths c)
+    turns-long =
+        let q : d' ≡ done write c = p .laid ∙ ap (done write) (i .turn .kept) in
+        rw q (lays-long w (l .values) 0 c write (pairs w o l) (λ e. omega (arith, i .turn .enough e)))
+
+    pub turns-done : write ≡ true → leaves (Done n) d' ≡ pairing w o l c
+    turns-done e = settled-done done (λ c. refl) (i .turn) (p .count) (p .laid) e ∙ settles
+
+    module _ (e : write ≡ false) where
+      pub turns-not : space < n → leaves (NoRoom n) d' ≡ pairing w o l c
+      turns-not h = settled-not done (λ c. refl) (i .turn) (p .count) (p .laid) e (omega (arith, i .space-is)) ∙ settles
+
+      pub turns-again : n ≤ space → Turns w o l space c d' true
+      turns-again h =
+          record { sound = i .sound; formed = i .formed; space-is = i .space-is; turn = turn-again done (λ c. refl) (i .turn) (p .count) (p .laid) e (omega (arith, i .space-is)) }
