@@ -2,7 +2,6 @@
 use Prim.Native.Nat.{ℕ, _*_, _≤_, _^_}
 use mathlib.Core.Path.{_≡_}
 use mathlib.Core.Option.{Option, none, some}
-use mathlib.Core.List.{List}
 use lib.IntN.{ℤ, pos}
 use lib.ListN.{length}
 use lib.Signed.{mag}

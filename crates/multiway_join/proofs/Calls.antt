@@ -4,7 +4,6 @@ use mathlib.Core.Path.{_≡_, refl, sym, ap, _∙_}
 use mathlib.Core.Logic.{_↔_}
 use mathlib.Core.List.{List, [], _∷_, _++_, map}
 use native.Mathlib.Omega.{arith}
-use lib.IntN.{pos}
 use lib.ListN.{length, getD, take, drop, length-map}
 use lib.Seq.{take-at}
 use Rattle.integer.specs.Faithful.{Faithful}
@@ -12,7 +11,7 @@ use Rattle.rules.specs.Piece.{Range, column, Within, AllWellFormed}
 use Rattle.rules.specs.Lists.{Width, Lent, lists}
 use Rattle.rules.specs.Answer.{Outcome, judge, settle, front, leaves}
 use Rattle.rules.specs.Merged.{Merged, room, lay}
-use Rattle.rules.specs.Refusals.{Formed, turn}
+use Rattle.rules.specs.Refusals.{turn}
 use Rattle.rules.specs.declared.Answer.the-variants.{Done}
 use Rattle.rules.specs.declared.Judgement.{Judgement}
 use Rattle.rules.specs.declared.Judgement.the-variants.{Sound, Refused}

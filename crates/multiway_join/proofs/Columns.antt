@@ -1,10 +1,10 @@
 -- Columns that take pieces from a place on. Assumes nothing.
 use Prim.Native.Nat.{ℕ, _+_, _≤_, _<_}
 use mathlib.Core.Path.{_≡_, refl, sym, ap, _∙_}
-use mathlib.Core.Bool.{Bool, true, false, cond}
+use mathlib.Core.Bool.{Bool, true, false}
 use mathlib.Core.List.{List, [], _∷_, _++_, map, append-assoc}
 use native.Mathlib.Omega.{arith}
-use native.Mathlib.Nat.{add-zero, add-assoc}
+use native.Mathlib.Nat.{add-zero}
 use native.Mathlib.Numerals.{add-one}
 use lib.IntN.{ℤ}
 use lib.ListN.{length, take, drop, set, length-append, length-map}
@@ -14,7 +14,7 @@ use Rattle.rules.specs.Lists.{Width}
 use Rattle.rules.specs.Answer.{least, laid}
 use Rattle.rules.specs.Merged.{Merged, lengths, room, lay}
 use Rattle.rules.specs.Proving.Long.{Long}
-use Rattle.rules.proofs.Fronts.{laid-nothing, laid-long, same-room}
+use Rattle.rules.proofs.Fronts.{laid-nothing, laid-long}
 use Rattle.multiway_join.specs.Pieces.{piece-of, waiting}
 use Rattle.multiway_join.specs.Passes.{Puttable, lay-if, PutPieces}
 use Rattle.multiway_join.specs.declared.Piece.{Piece}

@@ -1,5 +1,5 @@
 -- A join as a walk: pieces of whole pence, laid into columns of starts, ends and values from the first place on. Assumes nothing.
-use Prim.Native.Nat.{ℕ, _+_, _≤_, _<_}
+use Prim.Native.Nat.{ℕ, _≤_, _<_}
 use mathlib.Core.Path.{_≡_, sym, ap, _∙_}
 use mathlib.Core.Bool.{Bool}
 use mathlib.Core.Option.{none, some}
@@ -17,7 +17,7 @@ use Rattle.rules.specs.declared.Kind.{Kind}
 use Rattle.rules.proofs.Columns.{lists-length, lists-size}
 use Rattle.rules.proofs.Faults.{formed-values}
 use Rattle.rules.proofs.Same.{decides-ℤ}
-use Rattle.many_way_rules.specs.Operations.{kind-of, rule-of, merged}
+use Rattle.many_way_rules.specs.Operations.{rule-of, merged}
 use Rattle.many_way_rules.specs.declared.Operation.{Operation}
 use Rattle.many_way_rules.proofs.Room.{rule-nones, merged-enough}
 use Rattle.slots.specs.Slots.{Slots, active}
@@ -27,7 +27,7 @@ use Rattle.multiway_join.specs.Passes.{PutPieces, Joinable}
 use Rattle.multiway_join.specs.declared.Ruling.{Ruling}
 use Rattle.multiway_join.specs.declared.Ruling.the-variants.{Nothing as NotAdmitted, Value}
 use Rattle.multiway_join.proofs.Columns.{merged-takes}
-use Rattle.multiway_join.proofs.Going.{Walk, pieces, Walkable}
+use Rattle.multiway_join.proofs.Walks.{Walk, pieces, Walkable}
 
 -- lists that the form checker passed
 module _ {P : Type 0} {w : Width P} {k : Kind} {l : Lent P} (f : Formed w k l) where

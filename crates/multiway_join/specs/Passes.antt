@@ -1,5 +1,5 @@
 -- What a pass over the stretches promises: that all pieces are laid into the columns from a place on, where they are written, and which place comes after them. Assumes nothing.
-use Prim.Native.Nat.{ℕ, _+_, _≤_, _<_}
+use Prim.Native.Nat.{ℕ, _+_, _≤_, _<_, _^_}
 use mathlib.Core.Path.{_≡_}
 use mathlib.Core.Bool.{Bool, true, cond}
 use mathlib.Core.List.{List, []}
@@ -17,7 +17,7 @@ use Rattle.many_way_rules.specs.declared.Operation.{Operation}
 pub record Puttable {B : Type 0} (points room : ℕ) (write : Bool) (n : ℕ) (xs : List (Piece B)) : Type 0 where
   pub within : Within 0 points xs
   pub roomy : write ≡ true → n + length xs ≤ room
-  pub few : n + length xs ≤ 4095
+  pub few : n + length xs < 2 ^ 64
 
 -- columns of any kind with pieces from place n on, where they are written
 abbrev pub lay-if : {B C : Type 0} → (ℕ → List (Piece B) → C → C) → Bool → ℕ → List (Piece B) → C → C

@@ -1,12 +1,10 @@
 -- `combine::count` meets its contract: the number is that of the values in the places passed. Assumes nothing.
 use Prim.Native.Nat.{_+_, _≤_}
-use mathlib.Core.Path.{_≡_, refl, ap, _∙_}
+use mathlib.Core.Path.{_≡_, refl}
 use mathlib.Core.List.{List}
 use native.Mathlib.Omega.{arith}
-use lib.IntN.{ℤ, pos}
+use lib.IntN.{ℤ}
 use lib.ListN.{length}
-use mir.Syntax.{w64}
-use mir.ValLaws.{toZ-pos}
 use Rattle.rules.specs.Piece as pieces
 use Rattle.slots.proofs.Kept.{Kept, kept-start, kept-there, kept-missing, kept-end}
 use Rattle.combine.proofs.Laws.{numbered}

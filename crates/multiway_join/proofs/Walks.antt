@@ -1,8 +1,8 @@
 -- What a walk over stretches keeps, for any value that can be told from others, any rule, any columns and any first place: the pieces that are done and those that wait say what the rule says up to the last stretch. Assumes nothing.
-use Prim.Native.Nat.{ℕ, zero, suc, pred, _+_, _-_, _≤_, _<_}
+use Prim.Native.Nat.{ℕ, zero, suc, pred, _+_, _-_, _≤_, _<_, _^_}
 use mathlib.Core.Path.{_≡_, refl, sym, ap, _∙_, subst}
 use mathlib.Core.Logic.{_⊎_, inl, inr}
-use mathlib.Core.Bool.{Bool, true, false, cond}
+use mathlib.Core.Bool.{Bool, true, false}
 use mathlib.Core.Option.{Option, none, some}
 use mathlib.Core.List.{List, [], _∷_, _++_, append-assoc, append-nil}
 use native.Mathlib.Omega.{arith}
@@ -86,7 +86,7 @@ module _ {A B C : Type 0} (k : Walk A B C) where
     pub formed : AllWellFormed (k .points) (k .lists)
     pub nothing : k .rule (nones (k .lists)) ≡ none
     pub roomy : k .write ≡ true → k .from + length pieces ≤ least (k .lengths (k .columns))
-    pub few : k .from + length pieces ≤ 4095
+    pub few : k .from + length pieces < 2 ^ 64
 
   abbrev Upto : ℕ → List (Piece B) → Type 0
   Upto p xs = Below p xs (says (k .rule) (k .lists))
