@@ -93,6 +93,7 @@ module _ {A B C : Type 0} (k : Walk A B C) where
 
   -- the points below p are dealt with: the columns as they are now, the pieces that wait, and the place after those that are done
   pub record Going (d : C) (waiting : List (Piece B)) (place p : ℕ) : Type 0 where
+    pub ok : Walkable
     pub upto : p ≤ k .points
     pub done : List (Piece B)
     pub counted : place ≡ k .from + length done
@@ -100,32 +101,32 @@ module _ {A B C : Type 0} (k : Walk A B C) where
     pub below : Upto p (done ++ waiting)
     pub first : waiting ≡ [] → done ≡ []
 
-module _ {A B C : Type 0} {k : Walk A B C} (ok : Walkable k) where
-  pub going-first : Going k (k .columns) [] (k .from) 0
-  going-first = record { upto = omega arith; done = []; counted = sym (add-zero (k .from)); laid = sym (if-nothing (ok .takes) (k .from) (k .write) (k .columns)); below = nothing-below (says (k .rule) (k .lists)); first = λ e. refl }
+module _ {A B C : Type 0} {k : Walk A B C} where
+  pub going-first : Walkable k → Going k (k .columns) [] (k .from) 0
+  going-first ok = record { ok = ok; upto = omega arith; done = []; counted = sym (add-zero (k .from)); laid = sym (if-nothing (ok .takes) (k .from) (k .write) (k .columns)); below = nothing-below (says (k .rule) (k .lists)); first = λ e. refl }
 
   -- pieces up to a point are no more than all pieces
-  not-more : (p : ℕ) (xs : List (Piece B)) → p ≤ k .points → Upto k p xs → length xs ≤ length (pieces k)
-  not-more p xs h b =
+  not-more : Walkable k → (p : ℕ) (xs : List (Piece B)) → p ≤ k .points → Upto k p xs → length xs ≤ length (pieces k)
+  not-more ok p xs h b =
       let r = grown (k .same) (ok .law) (says (k .rule) (k .lists)) (k .points - p) p xs b in
       let e : p + (k .points - p) ≡ k .points = omega arith in
       omega (arith, r .2, ap length (runs-only (k .same) (ok .law) (k .rule) (k .points) (k .lists) (ok .formed) (r .0) (rw e at (r .1))))
 
   module _ {d : C} {waiting : List (Piece B)} {place p : ℕ} (g : Going k d waiting place p) where
     done-roomy : k .write ≡ true → k .from + length (g .done) ≤ least (k .lengths (k .columns))
-    done-roomy t = omega (arith, length-append (g .done) waiting, not-more p (g .done ++ waiting) (g .upto) (g .below), ok .roomy t)
+    done-roomy t = omega (arith, length-append (g .done) waiting, not-more (g .ok) p (g .done ++ waiting) (g .upto) (g .below), g .ok .roomy t)
 
     -- every column keeps its length
     pub going-long : Long (k .lengths d) (k .lengths (k .columns))
-    going-long = rw (g .laid) (if-keeps (ok .takes) (k .from) (k .write) (g .done) (k .columns) done-roomy)
+    going-long = rw (g .laid) (if-keeps (g .ok .takes) (k .from) (k .write) (g .done) (k .columns) done-roomy)
 
     -- what is put next, and what there is besides
     module _ (next rest : List (Piece B)) {q : ℕ} (h : q ≤ k .points) (b : Upto k q ((g .done ++ next) ++ rest)) where
       all-few : length (g .done ++ next) ≤ length (pieces k)
-      all-few = omega (arith, length-append (g .done ++ next) rest, not-more q ((g .done ++ next) ++ rest) h b)
+      all-few = omega (arith, length-append (g .done ++ next) rest, not-more (g .ok) q ((g .done ++ next) ++ rest) h b)
 
       next-roomy : k .write ≡ true → k .from + length (g .done ++ next) ≤ least (k .lengths (k .columns))
-      next-roomy t = omega (arith, all-few, ok .roomy t)
+      next-roomy t = omega (arith, all-few, g .ok .roomy t)
 
       next-puttable : Puttable (k .points) (least (k .lengths d)) (k .write) place next
       next-puttable =
@@ -133,7 +134,7 @@ module _ {A B C : Type 0} {k : Walk A B C} (ok : Walkable k) where
           record {
             within = within-last 0 (k .points) (g .done) next (within-mono 0 q (k .points) (g .done ++ next) (within-first 0 q (g .done ++ next) rest (b .canonical .0)) h);
             roomy = λ t. omega (arith, next-roomy t, g .counted, same-room (k .lengths d) (k .lengths (k .columns)) going-long);
-            few = omega (arith, g .counted, all-few, ok .few);
+            few = omega (arith, g .counted, all-few, g .ok .few);
           }
 
       module _ {d' : C} {place' : ℕ} (u : PutPieces (k .lay) (k .write) place next d d' place') where
@@ -141,7 +142,7 @@ module _ {A B C : Type 0} {k : Walk A B C} (ok : Walkable k) where
         next-counted = omega (arith, u .count, g .counted, length-append (g .done) next)
 
         next-laid : d' ≡ lay-if (k .lay) (k .write) (k .from) (g .done ++ next) (k .columns)
-        next-laid = u .is ∙ rw (g .laid, g .counted) (if-append (ok .takes) (k .from) (k .write) (g .done) next (k .columns) next-roomy)
+        next-laid = u .is ∙ rw (g .laid, g .counted) (if-append (g .ok .takes) (k .from) (k .write) (g .done) next (k .columns) next-roomy)
 
     -- a stretch
     module _ {act : List (Option A)} {start end : ℕ} (t : Stretch (k .points) (k .lists) p act start end) where
@@ -149,11 +150,11 @@ module _ {A B C : Type 0} {k : Walk A B C} (ok : Walkable k) where
       turn-less = omega (arith, t .later, t .order, t .below)
 
       before : (q : ℕ) → p ≤ q → q < start → says (k .rule) (k .lists) q ≡ none
-      before q h m = ap (k .rule) (t .gap q h m) ∙ ok .nothing
+      before q h m = ap (k .rule) (t .gap q h m) ∙ g .ok .nothing
 
       -- that is not admitted
       pub turn-silent : k .rule act ≡ none → Going k d waiting place (end + 1)
-      turn-silent e = record { upto = omega (arith, t .below); done = g .done; counted = g .counted; laid = g .laid; below = skip-below p (end + 1) (g .done ++ waiting) (says (k .rule) (k .lists)) (g .below) (omega (arith, t .later, t .order)) (λ q h m. go q h m (le-or-lt start q)); first = g .first }
+      turn-silent e = record { ok = g .ok; upto = omega (arith, t .below); done = g .done; counted = g .counted; laid = g .laid; below = skip-below p (end + 1) (g .done ++ waiting) (says (k .rule) (k .lists)) (g .below) (omega (arith, t .later, t .order)) (λ q h m. go q h m (le-or-lt start q)); first = g .first }
         where
           go : (q : ℕ) → p ≤ q → q < end + 1 → (start ≤ q) ⊎ (q < start) → says (k .rule) (k .lists) q ≡ none
           go q h m (inl u) = ap (k .rule) (t .on q u (omega arith)) ∙ e
@@ -170,7 +171,7 @@ module _ {A B C : Type 0} {k : Walk A B C} (ok : Walkable k) where
             let q : pred (end + 1) ≡ end = omega arith in
             let r : record { start = start; end = end; value = y .value } ≡ y = λ i. record { start = sym s i; end = sym f i; value = y .value } in
             subst (λ x. Upto k (end + 1) (push (k .same) (g .done ++ waiting) x)) r
-            (rw q at (push-past (k .same) (ok .law) p start (end + 1) (y .value) (g .done ++ waiting) (says (k .rule) (k .lists)) (g .below) (t .later) (omega (arith, t .order)) before (λ r h m. ap (k .rule) (t .on r h (omega arith)) ∙ e)))
+            (rw q at (push-past (k .same) (g .ok .law) p start (end + 1) (y .value) (g .done ++ waiting) (says (k .rule) (k .lists)) (g .below) (t .later) (omega (arith, t .order)) before (λ r h m. ap (k .rule) (t .on r h (omega arith)) ∙ e)))
 
         push-waiting : (xs : List (Piece B)) → waiting ≡ xs → push (k .same) (g .done ++ xs) y ≡ g .done ++ push (k .same) xs y
         push-waiting [] q = rw (g .first q)
@@ -185,6 +186,7 @@ module _ {A B C : Type 0} {k : Walk A B C} (ok : Walkable k) where
         pub turn-more : {d' : C} {place' : ℕ} → PutPieces (k .lay) (k .write) place next d d' place' → Going k d' (z ∷ []) place' (end + 1)
         turn-more v =
             record {
+              ok = g .ok;
               upto = omega (arith, t .below);
               done = g .done ++ next;
               counted = next-counted next (z ∷ []) (omega (arith, t .below)) after-push v;
@@ -196,7 +198,7 @@ module _ {A B C : Type 0} {k : Walk A B C} (ok : Walkable k) where
     -- no stretch is left
     module _ (over : NoStretch (k .points) (k .lists) p) where
       whole : Upto k (k .points) (g .done ++ waiting)
-      whole = skip-below p (k .points) (g .done ++ waiting) (says (k .rule) (k .lists)) (g .below) (g .upto) (λ q h m. ap (k .rule) (over q h m) ∙ ok .nothing)
+      whole = skip-below p (k .points) (g .done ++ waiting) (says (k .rule) (k .lists)) (g .below) (g .upto) (λ q h m. ap (k .rule) (over q h m) ∙ g .ok .nothing)
 
       last : Upto k (k .points) ((g .done ++ waiting) ++ [])
       last = rw append-nil whole
@@ -206,5 +208,5 @@ module _ {A B C : Type 0} {k : Walk A B C} (ok : Walkable k) where
 
       pub walked : {d' : C} {place' : ℕ} → PutPieces (k .lay) (k .write) place waiting d d' place' → PutPieces (k .lay) (k .write) (k .from) (pieces k) (k .columns) d' place'
       walked u =
-          let e = runs-only (k .same) (ok .law) (k .rule) (k .points) (k .lists) (ok .formed) (g .done ++ waiting) whole in
+          let e = runs-only (k .same) (g .ok .law) (k .rule) (k .points) (k .lists) (g .ok .formed) (g .done ++ waiting) whole in
           record { count = next-counted waiting [] (omega arith) last u ∙ ap (λ xs. k .from + length xs) e; is = next-laid waiting [] (omega arith) last u ∙ ap (λ xs. lay-if (k .lay) (k .write) (k .from) xs (k .columns)) e }

@@ -43,52 +43,56 @@ pub refused : {P : Type 0} (w : Width P) (o : Operation) (l : Lent P) {k : Kind}
 unfolding merging
 refused w o l e found c h = rw (← e, ← found, h)
 
--- before a pass of a join nothing is written yet: the columns at first, and now
-abbrev pub Turns : {P : Type 0} → Width P → Operation → Lent P → Merged P → Merged P → Bool → Type 0
-Turns w o l c d write = Turn (length (merged o (w .points) (lists w l))) (room c) c d write
+-- all pieces
+abbrev pieces : {P : Type 0} → Width P → Operation → Lent P → List Range
+pieces w o l = merged o (w .points) (lists w l)
 
-module _ {P : Type 0} (w : Width P) (o : Operation) (l : Lent P) (f : Formed w (kind-of o) l) where
-  abbrev pieces : List Range
-  pieces = merged o (w .points) (lists w l)
+-- before a pass of a join over lists that the form checker passed nothing is written yet: the columns at first, and now
+pub record Turns {P : Type 0} (w : Width P) (o : Operation) (l : Lent P) (c d : Merged P) (write : Bool) : Type 0 where
+  pub formed : Formed w (kind-of o) l
+  pub lists-some : 0 < length (l .counts)
+  pub turn : Turn (length (pieces w o l)) (room c) c d write
 
-  module _ (lists-some : 0 < length (l .counts)) where
-    -- as many as there can be
-    most-enough : length pieces ≤ 2 * length (l .starts) - 1
-    unfolding merged
-    most-enough = omega (arith, runs-room eqℤ (rule-of o) (w .points) (lists w l) decides-ℤ (lists-formed f) (nothing-there o (lists w l) (omega (arith, lists-length w l))), lists-size w l, f .agree .adds-up)
+module _ {P : Type 0} (w : Width P) (o : Operation) (l : Lent P) (f : Formed w (kind-of o) l) (there : 0 < length (l .counts)) where
+  -- as many as there can be
+  most-enough : length (pieces w o l) ≤ 2 * length (l .starts) - 1
+  unfolding merged
+  most-enough = omega (arith, runs-room eqℤ (rule-of o) (w .points) (lists w l) decides-ℤ (lists-formed f) (nothing-there o (lists w l) (omega (arith, lists-length w l))), lists-size w l, f .agree .adds-up)
 
-    -- where there is sure to be room the first pass writes
-    pub turns-first : (c : Merged P) {most space : ℕ} → most ≡ 2 * length (l .starts) - 1 → space ≡ room c → Turns w o l c c (leb most space)
-    turns-first c {most} {space} e q = record { kept = refl; enough = λ h. omega (arith, most-enough, leb-true most space h) }
+  -- where there is sure to be room the first pass writes
+  pub turns-first : {c : Merged P} {most space : ℕ} → most ≡ 2 * length (l .starts) - 1 → space ≡ room c → Turns w o l c c (leb most space)
+  turns-first {most = most} {space = space} e q = record { formed = f; lists-some = there; turn = record { kept = refl; enough = λ h. omega (arith, most-enough, leb-true most space h) } }
 
-    pub turns-joinable : {c d : Merged P} {write : Bool} → Turns w o l c d write → Joinable w o l write d
-    turns-joinable i = rw (i .kept) (record { formed = f; lists-some = lists-some; roomy = i .enough })
+module _ {P : Type 0} {w : Width P} {o : Operation} {l : Lent P} where
+  pub turns-joinable : {c d : Merged P} {write : Bool} → Turns w o l c d write → Joinable w o l write d
+  turns-joinable i = rw (i .turn .kept) (record { formed = i .formed; lists-some = i .lists-some; roomy = i .turn .enough })
 
-  module _ {c d d' : Merged P} {write : Bool} {n : ℕ} (i : Turns w o l c d write) (p : PutPieces (lay w) write 0 pieces d d' n) where
+  module _ {c d d' : Merged P} {write : Bool} {n : ℕ} (i : Turns w o l c d write) (p : PutPieces (lay w) write 0 (pieces w o l) d d' n) where
     abbrev lays : Bool → Merged P → Merged P
-    lays b x = lay-if (lay w) b 0 pieces x
+    lays b x = lay-if (lay w) b 0 (pieces w o l) x
 
-    count : n ≡ length pieces
+    count : n ≡ length (pieces w o l)
     count = omega (arith, p .count)
 
     pub turns-long : Long (lengths d') (lengths c)
     turns-long =
-        let q : d' ≡ lays write c = p .is ∙ ap (lays write) (i .kept) in
-        rw q (if-keeps (merged-takes w) 0 write pieces c (λ t. omega (arith, i .enough t)))
+        let q : d' ≡ lays write c = p .is ∙ ap (lays write) (i .turn .kept) in
+        rw q (if-keeps (merged-takes w) 0 write (pieces w o l) c (λ t. omega (arith, i .turn .enough t)))
 
     pub turns-done : write ≡ true → leaves (Done n) d' ≡ merging w o l c
     unfolding merging
-    turns-done e = rw (formed-sound w (kind-of o) l f) (settled-done lays (λ c. refl) i count (p .is) e)
+    turns-done e = rw (formed-sound w (kind-of o) l (i .formed)) (settled-done lays (λ c. refl) (i .turn) count (p .is) e)
 
     module _ (e : write ≡ false) {space : ℕ} (q : space ≡ room c) where
       pub turns-not : space < n → leaves (NoRoom n) d' ≡ merging w o l c
       unfolding merging
-      turns-not h = rw (formed-sound w (kind-of o) l f) (settled-not lays (λ c. refl) i count (p .is) e (omega arith))
+      turns-not h = rw (formed-sound w (kind-of o) l (i .formed)) (settled-not lays (λ c. refl) (i .turn) count (p .is) e (omega arith))
 
       pub turns-again : n ≤ space → Turns w o l c d' true
-      turns-again h = turn-again lays (λ c. refl) i count (p .is) e (omega arith)
+      turns-again h = record { formed = i .formed; lists-some = i .lists-some; turn = turn-again lays (λ c. refl) (i .turn) count (p .is) e (omega arith) }
 
-  -- there are no lists
+-- there are no lists
+module _ {P : Type 0} (w : Width P) (o : Operation) (l : Lent P) (f : Formed w (kind-of o) l) where
   pub joined-none : length (l .counts) ≡ 0 → (c : Merged P) {d : Merged P} {a : Answer} → leaves a d ≡ of-none w o c → leaves a d ≡ merging w o l c
   unfolding merging
   joined-none e c p = p ∙ rw (formed-sound w (kind-of o) l f, go (l .counts) e)

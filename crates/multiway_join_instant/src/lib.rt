@@ -169,8 +169,8 @@ fn of_none(
     Answer::Done(put(true, 0, Pending::One(whole), out_start, out_end, out_value))
 }
 
-// Writes all pieces where there is room for them. Where the room may not do, a counting pass tells how many there are.
-fn write_all(
+// A many-way join of the lists that are lent.
+fn join_lists(
     admission: Admission,
     combiner: u8,
     starts: &[Point],
@@ -181,10 +181,16 @@ fn write_all(
     out_end: &mut [Point],
     out_value: &mut [i64],
 ) -> Answer
-    requires { ⌜ Formed instants (kind-of (Join admission combiner)) (lent starts ends values counts) × (0 < length (now counts)) ⌝ }
     ensures { λ r. ⌜ leaves r (after «out_start» «out_end» «out_value»)
         ≡ merging instants (Join admission combiner) (given starts ends values counts) (before «out_start» «out_end» «out_value») ⌝ }
 {
+    let found = judge(Kind::Join(known(combiner)), starts, ends, values, counts);
+    if let Judgement::Refused(answer) = found {
+        return answer;
+    }
+    if counts.len() == 0 {
+        return of_none(admission, combiner, out_start, out_end, out_value);
+    }
     let space = shortest(out_start.len(), out_end.len(), out_value.len());
     let mut sure = most(starts.len()) <= space;
     loop {
@@ -208,41 +214,6 @@ fn write_all(
         }
         sure = true;
     }
-}
-
-// A many-way join of the lists that are lent.
-fn join_lists(
-    admission: Admission,
-    combiner: u8,
-    starts: &[Point],
-    ends: &[Point],
-    values: &[i32],
-    counts: &[u32],
-    out_start: &mut [Point],
-    out_end: &mut [Point],
-    out_value: &mut [i64],
-) -> Answer
-    ensures { λ r. ⌜ leaves r (after «out_start» «out_end» «out_value»)
-        ≡ merging instants (Join admission combiner) (given starts ends values counts) (before «out_start» «out_end» «out_value») ⌝ }
-{
-    let found = judge(Kind::Join(known(combiner)), starts, ends, values, counts);
-    if let Judgement::Refused(answer) = found {
-        return answer;
-    }
-    if counts.len() == 0 {
-        return of_none(admission, combiner, out_start, out_end, out_value);
-    }
-    write_all(
-        admission,
-        combiner,
-        starts,
-        ends,
-        values,
-        counts,
-        out_start,
-        out_end,
-        out_value,
-    )
 }
 
 // The inner join: every point in every list, with the combiner over their values.

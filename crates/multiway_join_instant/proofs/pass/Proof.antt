@@ -44,9 +44,6 @@ Found = tie.After-stretch Inv-loop μ-loop
 abbrev Ruled : Type 0
 Ruled = tie.After-rule-on Inv-loop μ-loop
 
-abbrev Admitted : Type 0
-Admitted = tie.After-ruling Inv-loop μ-loop
-
 abbrev Told : Type 0
 Told = tie.After-known-told2 Inv-loop μ-loop
 
@@ -65,11 +62,8 @@ asked f = search
 abbrev found : Ruled → Found
 found r = search
 
-abbrev ruled : Admitted → Ruled
-ruled v = search
-
-abbrev admitted : Told → Admitted
-admitted k = search
+abbrev ruled : Told → Ruled
+ruled k = search
 
 abbrev told : Pushed → Told
 told u = search
@@ -83,7 +77,10 @@ pass-spec =
     -- the first event
     (λ c κs. let a : Start = search in ((_, a .pre .formed), zeros))
     -- the walk begins
-    (λ c. let f : tie.After-first-event Inv-loop μ-loop = search in let a : Start = search in (joining-first (lists-formed (a .pre .formed)) (lists-few (a .pre .formed)) (f .first-event .ensures), going-first (walkable (a .pre))))
+    (λ c.
+    let e : tie.After-first-event Inv-loop μ-loop = search in
+    let a : Start = search in
+    (joining-first (lists-formed (a .pre .formed)) (lists-few (a .pre .formed)) (e .first-event .ensures), going-first (walkable (a .pre))))
     -- the next stretch
     (λ c κs. let l : Loop = search in ((_, l .loop .inv .0), l .loop .inv .1 .upto))
     (λ c. search needs)
@@ -92,86 +89,72 @@ pass-spec =
     (λ c κs.
     let e : tie.After-enum-told Inv-loop μ-loop = search in
     let n : Asked = search in
-    let l = turn n in
-    let a = entry l in
-    last-puttable (walkable (a .pre)) (l .loop .inv .1) (finds-none instants _ _ _ _ _ (e .enum-told .given .1) (n .next-stretch .ensures _ (l .loop .inv .0))))
-    (λ c.
-    let p : tie.After-put Inv-loop μ-loop = search in
-    let n : Asked = search in
-    let l = turn n in
-    p .put .kept .1 .1 .1 .0 ∙ going-long (walkable (entry l .pre)) (l .loop .inv .1) .0)
-    (λ c.
-    let p : tie.After-put Inv-loop μ-loop = search in
-    let n : Asked = search in
-    let l = turn n in
-    p .put .kept .1 .1 .1 .1 .0 ∙ going-long (walkable (entry l .pre)) (l .loop .inv .1) .1 .0)
-    (λ c.
-    let p : tie.After-put Inv-loop μ-loop = search in
-    let n : Asked = search in
-    let l = turn n in
-    p .put .kept .1 .1 .1 .1 .1 .0 ∙ going-long (walkable (entry l .pre)) (l .loop .inv .1) .1 .1 .0)
+    let i = turn n .loop .inv in
+    last-puttable (i .1) (finds-none instants _ _ _ _ _ (e .enum-told .given .1) (n .next-stretch .ensures _ (i .0))))
+    -- every column keeps its length
+    (λ c. let p : tie.After-put Inv-loop μ-loop = search in let n : Asked = search in p .put .kept .1 .1 .1 .0 ∙ going-long (turn n .loop .inv .1) .0)
+    (λ c. let p : tie.After-put Inv-loop μ-loop = search in let n : Asked = search in p .put .kept .1 .1 .1 .1 .0 ∙ going-long (turn n .loop .inv .1) .1 .0)
+    (λ c. let p : tie.After-put Inv-loop μ-loop = search in let n : Asked = search in p .put .kept .1 .1 .1 .1 .1 .0 ∙ going-long (turn n .loop .inv .1) .1 .1 .0)
+    -- all pieces are put
     (λ c.
     let p : tie.After-put Inv-loop μ-loop = search in
     let e : tie.After-enum-told Inv-loop μ-loop = search in
     let n : Asked = search in
     let l = turn n in
-    let a = entry l in
-    joined (a .pre) (walked (walkable (a .pre)) (l .loop .inv .1) (finds-none instants _ _ _ _ _ (e .enum-told .given .1) (n .next-stretch .ensures _ (l .loop .inv .0))) (p .put .ensures)))
+    let i = l .loop .inv in
+    joined (entry l .pre) (walked (i .1) (finds-none instants _ _ _ _ _ (e .enum-told .given .1) (n .next-stretch .ensures _ (i .0))) (p .put .ensures)))
     -- what the join says of the stretch
     (λ c κs. let f : Found = search in entry (turn (asked f)) .pre .formed .lists-few)
     (λ c. search needs)
-    -- it is admitted with a value: the piece is pushed, and what is done is put
+    -- it is admitted with a value: the piece is pushed to what is pending
     (λ c κs.
-    let v : Admitted = search in
-    let f = found (ruled v) in
+    let k : Told = search in
+    let f = found (ruled k) in
     let n = asked f in
-    let l = turn n in
-    let a = entry l in
-    let t = finds-next instants _ _ _ _ _ (f .stretch .given .1) (n .next-stretch .ensures _ (l .loop .inv .0)) in
-    turn-apart (walkable (a .pre)) (l .loop .inv .1) (t .0))
+    let i = turn n .loop .inv in
+    turn-apart (i .1) (finds-next instants _ _ _ _ _ (f .stretch .given .1) (n .next-stretch .ensures _ (i .0)) .0))
+    -- what is done is put
     (λ c κs.
     let u : Pushed = search in
     let k = told u in
-    let v = admitted k in
-    let f = found (ruled v) in
+    let r = ruled k in
+    let f = found r in
     let n = asked f in
     let l = turn n in
-    let a = entry l in
-    let t = finds-next instants _ _ _ _ _ (f .stretch .given .1) (n .next-stretch .ensures _ (l .loop .inv .0)) in
-    turn-puttable (walkable (a .pre)) (l .loop .inv .1) (t .0) (u .push-merged .ensures) refl refl (ruled-in (a .pre) _ (t .0) _ (ruled v .rule-on .ensures) (v .ruling .given .1) (back w64 _ (k .known-told2 .given .0 .1))))
+    let i = l .loop .inv in
+    let t = finds-next instants _ _ _ _ _ (f .stretch .given .1) (n .next-stretch .ensures _ (i .0)) in
+    turn-puttable (i .1) (t .0) (u .push-merged .ensures) refl refl (ruled-in (entry l .pre) _ (t .0) _ (r .rule-on .ensures) (k .before .ruling .given .1) (back w64 _ (k .known-told2 .given .0 .1))))
+    -- fewer points are left
     (λ c.
-    let v : Admitted = search in
-    let f = found (ruled v) in
+    let k : Told = search in
+    let f = found (ruled k) in
     let n = asked f in
-    let l = turn n in
-    let a = entry l in
-    let t = finds-next instants _ _ _ _ _ (f .stretch .given .1) (n .next-stretch .ensures _ (l .loop .inv .0)) in
-    turn-less (walkable (a .pre)) (l .loop .inv .1) (t .0))
+    let i = turn n .loop .inv in
+    turn-less (i .1) (finds-next instants _ _ _ _ _ (f .stretch .given .1) (n .next-stretch .ensures _ (i .0)) .0))
+    -- the walk goes on
     (λ c.
     let p : tie.After-put2 Inv-loop μ-loop = search in
     let u : Pushed = search in
     let k = told u in
-    let v = admitted k in
-    let f = found (ruled v) in
+    let r = ruled k in
+    let f = found r in
     let n = asked f in
     let l = turn n in
-    let a = entry l in
-    let t = finds-next instants _ _ _ _ _ (f .stretch .given .1) (n .next-stretch .ensures _ (l .loop .inv .0)) in
-    (t .1, turn-more (walkable (a .pre)) (l .loop .inv .1) (t .0) (u .push-merged .ensures) refl refl (ruled-in (a .pre) _ (t .0) _ (ruled v .rule-on .ensures) (v .ruling .given .1) (back w64 _ (k .known-told2 .given .0 .1))) (p .put2 .ensures)))
-    -- it is not admitted
+    let i = l .loop .inv in
+    let t = finds-next instants _ _ _ _ _ (f .stretch .given .1) (n .next-stretch .ensures _ (i .0)) in
+    (t .1, turn-more (i .1) (t .0) (u .push-merged .ensures) refl refl (ruled-in (entry l .pre) _ (t .0) _ (r .rule-on .ensures) (k .before .ruling .given .1) (back w64 _ (k .known-told2 .given .0 .1))) (p .put2 .ensures)))
+    -- it is not admitted: fewer points are left, and the walk goes on
     (λ c. search needs)
     (λ c.
     let f : Found = search in
     let n = asked f in
-    let l = turn n in
-    let a = entry l in
-    let t = finds-next instants _ _ _ _ _ (f .stretch .given .1) (n .next-stretch .ensures _ (l .loop .inv .0)) in
-    turn-less (walkable (a .pre)) (l .loop .inv .1) (t .0))
+    let i = turn n .loop .inv in
+    turn-less (i .1) (finds-next instants _ _ _ _ _ (f .stretch .given .1) (n .next-stretch .ensures _ (i .0)) .0))
     (λ c.
     let r : Ruled = search in
     let f = found r in
     let n = asked f in
     let l = turn n in
-    let a = entry l in
-    let t = finds-next instants _ _ _ _ _ (f .stretch .given .1) (n .next-stretch .ensures _ (l .loop .inv .0)) in
-    (t .1, turn-silent (walkable (a .pre)) (l .loop .inv .1) (t .0) (ruled-out (a .pre) _ (t .0) _ (r .rule-on .ensures) (c .enum-told2 .given .1)))))
+    let i = l .loop .inv in
+    let t = finds-next instants _ _ _ _ _ (f .stretch .given .1) (n .next-stretch .ensures _ (i .0)) in
+    (t .1, turn-silent (i .1) (t .0) (ruled-out (entry l .pre) _ (t .0) _ (r .rule-on .ensures) (c .enum-told2 .given .1)))))
