@@ -36,7 +36,7 @@ pub extern "C" fn guineatwirl_instant_list_events(
         let d = listed.after «out_kind» «out_point» «out_list» «out_value» in
         ⌜ Said (listing instants (given starts ends values counts) c) r (now (number .exit)) d ⌝ }
 {
-    let answer = list_events(
+    let events = list_events(
         starts,
         ends,
         values,
@@ -46,8 +46,8 @@ pub extern "C" fn guineatwirl_instant_list_events(
         out_list,
         out_value,
     );
-    *number = number_of(answer) as u64;
-    code(answer)
+    *number = number_of(events) as u64;
+    code(events)
 }
 
 #[no_mangle]
@@ -68,7 +68,7 @@ pub extern "C" fn guineatwirl_instant_inner_join(
         let d = paired.after «out_start» «out_end» «out_left» «out_right» «out_presence» in
         ⌜ Said (pairing instants Inner (given starts ends values counts) c) r (now (number .exit)) d ⌝ }
 {
-    let answer = inner_join(
+    let inner = inner_join(
         starts,
         ends,
         values,
@@ -79,8 +79,8 @@ pub extern "C" fn guineatwirl_instant_inner_join(
         out_right,
         out_presence,
     );
-    *number = number_of(answer) as u64;
-    code(answer)
+    *number = number_of(inner) as u64;
+    code(inner)
 }
 
 #[no_mangle]
@@ -101,7 +101,7 @@ pub extern "C" fn guineatwirl_instant_left_join(
         let d = paired.after «out_start» «out_end» «out_left» «out_right» «out_presence» in
         ⌜ Said (pairing instants Left (given starts ends values counts) c) r (now (number .exit)) d ⌝ }
 {
-    let answer = left_join(
+    let left = left_join(
         starts,
         ends,
         values,
@@ -112,8 +112,8 @@ pub extern "C" fn guineatwirl_instant_left_join(
         out_right,
         out_presence,
     );
-    *number = number_of(answer) as u64;
-    code(answer)
+    *number = number_of(left) as u64;
+    code(left)
 }
 
 #[no_mangle]
@@ -134,7 +134,7 @@ pub extern "C" fn guineatwirl_instant_full_join(
         let d = paired.after «out_start» «out_end» «out_left» «out_right» «out_presence» in
         ⌜ Said (pairing instants Full (given starts ends values counts) c) r (now (number .exit)) d ⌝ }
 {
-    let answer = full_join(
+    let full = full_join(
         starts,
         ends,
         values,
@@ -145,8 +145,8 @@ pub extern "C" fn guineatwirl_instant_full_join(
         out_right,
         out_presence,
     );
-    *number = number_of(answer) as u64;
-    code(answer)
+    *number = number_of(full) as u64;
+    code(full)
 }
 
 #[no_mangle]
@@ -166,7 +166,7 @@ pub extern "C" fn guineatwirl_instant_multiway_inner_join(
         let d = merged.after «out_start» «out_end» «out_value» in
         ⌜ Said (merging instants (inner combiner) (given starts ends values counts) c) r (now (number .exit)) d ⌝ }
 {
-    let answer = multiway_inner_join(
+    let every = multiway_inner_join(
         combiner,
         starts,
         ends,
@@ -176,8 +176,8 @@ pub extern "C" fn guineatwirl_instant_multiway_inner_join(
         out_end,
         out_value,
     );
-    *number = number_of(answer) as u64;
-    code(answer)
+    *number = number_of(every) as u64;
+    code(every)
 }
 
 #[no_mangle]
@@ -197,7 +197,7 @@ pub extern "C" fn guineatwirl_instant_multiway_full_join(
         let d = merged.after «out_start» «out_end» «out_value» in
         ⌜ Said (merging instants (full combiner) (given starts ends values counts) c) r (now (number .exit)) d ⌝ }
 {
-    let answer = multiway_full_join(
+    let any = multiway_full_join(
         combiner,
         starts,
         ends,
@@ -207,6 +207,6 @@ pub extern "C" fn guineatwirl_instant_multiway_full_join(
         out_end,
         out_value,
     );
-    *number = number_of(answer) as u64;
-    code(answer)
+    *number = number_of(any) as u64;
+    code(any)
 }

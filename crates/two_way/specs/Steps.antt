@@ -5,7 +5,7 @@ use mathlib.Core.Bool.{Bool, true, false}
 use mathlib.Core.List.{List, [], _∷_}
 use lib.ListN.{length}
 use Rattle.rules.specs.Piece.{Within}
-use Rattle.rules.specs.Lists.{Width, Column, Columns, keys}
+use Rattle.rules.specs.Lists.{Width, keys}
 use Rattle.rules.specs.declared.Pairing.{Pairing}
 use Rattle.two_way.specs.Sides.{no-left, no-right, piece-of, side, moved, Two, start-at, end-at, stop, left-of, right-of, remains}
 use Rattle.two_way.specs.declared.Side.{Side}

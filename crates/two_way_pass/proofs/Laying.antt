@@ -23,7 +23,7 @@ use Rattle.two_way.specs.declared.Pair.{Pair}
 use Rattle.two_way.specs.declared.NextPair.{NextPair}
 use Rattle.two_way.specs.declared.NextPair.the-variants.{Next, Done}
 use Rattle.two_way_pass.specs.Pairs.{value, first, pairs, both}
-use Rattle.two_way_pass.specs.Columns.{Writable, put-row, PutPair, lays, Roomy, Passed}
+use Rattle.two_way_pass.specs.Columns.{Writable, put-row, PutPair, lays}
 use Rattle.two_way_pass.proofs.Lists.{begun-ready, pairs-upto}
 
 -- what each column takes of a piece

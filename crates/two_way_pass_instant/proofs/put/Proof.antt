@@ -15,13 +15,15 @@ use Rattle.two_way_pass_instant.proofs.put.Tie as tie
 abbrev Writes : Type 0
 Writes = tie.Then1
 
-abbrev start : Writes → tie.Start
-start b = b .before .before .before .before
+start : Writes → tie.Start
+start b = search
 
 writable : (b : Writes) → let a = start b .args in Writable instants (a .values .now) (a .place) (a .pair) (output (a .out-start) (a .out-end) (a .out-left) (a .out-right) (a .out-presence))
+unfolding start
 writable b = start b .pre (b .if1 .taken)
 
 pub put-spec : {M : Type 1} → statement M
+unfolding start
 put-spec =
     tie.close
     (tie.spec

@@ -44,6 +44,22 @@ step s = s .before .before
 abbrev loop : Given → Loop
 loop s = step s .before
 
+-- there is a place for one more piece
+put-requires : tie.Need-put-requires Inv-loop μ-loop
+put-requires c κs = let s : Given = search in going-writable (loop s .loop .inv) (step s .next-piece .ensures) (s .next .given .1) (omega arith)
+
+-- the count is below 4,095
+add-count : tie.Need-add-count Inv-loop μ-loop
+add-count c = let s : Given = search in omega (arith, going-few (loop s .loop .inv) (step s .next-piece .ensures) (s .next .given .1))
+
+-- fewer pieces are left
+loop-less : tie.Need-loop-less Inv-loop μ-loop
+loop-less c = let s : Given = search in omega (arith, going-lt (loop s .loop .inv) (step s .next-piece .ensures) (s .next .given .1))
+
+-- one more is laid
+loop-again : tie.Need-loop-again Inv-loop μ-loop
+loop-again c = let s : Given = search in let p : Written = search in going-more (loop s .loop .inv) (step s .next-piece .ensures) (s .next .given .1) (omega arith) (p .put .ensures)
+
 pub pass-spec : {M : Type 1} → statement M
 pass-spec =
     tie.close
@@ -68,11 +84,7 @@ pass-spec =
     (λ c. let l : Loop = search in going-long (l .loop .inv) .1 .1 .1 .0)
     (λ c. let l : Loop = search in going-long (l .loop .inv) .1 .1 .1 .1 .0)
     (λ c. let l : Loop = search in let n : Step = search in let e = going-last (l .loop .inv) (n .next-piece .ensures) (c .enum-told .given .1) in record { count = e .0; laid = e .1 })
-    -- `put`: there is a place for one more piece
-    (λ c κs. let s : Given = search in going-writable (loop s .loop .inv) (step s .next-piece .ensures) (s .next .given .1) (omega arith))
-    -- the count is below 4,095
-    (λ c. let s : Given = search in omega (arith, going-few (loop s .loop .inv) (step s .next-piece .ensures) (s .next .given .1)))
-    -- fewer pieces are left
-    (λ c. let s : Given = search in omega (arith, going-lt (loop s .loop .inv) (step s .next-piece .ensures) (s .next .given .1)))
-    -- one more is laid
-    (λ c. let s : Given = search in let p : Written = search in going-more (loop s .loop .inv) (step s .next-piece .ensures) (s .next .given .1) (omega arith) (p .put .ensures)))
+    put-requires
+    add-count
+    loop-less
+    loop-again)

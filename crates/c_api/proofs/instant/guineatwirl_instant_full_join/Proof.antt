@@ -16,4 +16,4 @@ guineatwirl-instant-full-join-spec =
     (λ c. search needs)
     (λ c. search needs)
     (λ c. search needs)
-    (λ c. let j : tie.After-full-join = search in said (j .full-join .ensures) (c .code .ensures) (c .before .number .ensures)))
+    (λ c. let j : tie.After-full-join = search in let n : tie.After-number = search in said (j .full-join .ensures) (c .code .ensures) (n .number .ensures)))

@@ -16,4 +16,4 @@ guineatwirl-instant-inner-join-spec =
     (λ c. search needs)
     (λ c. search needs)
     (λ c. search needs)
-    (λ c. let j : tie.After-inner-join = search in said (j .inner-join .ensures) (c .code .ensures) (c .before .number .ensures)))
+    (λ c. let j : tie.After-inner-join = search in let n : tie.After-number = search in said (j .inner-join .ensures) (c .code .ensures) (n .number .ensures)))

@@ -16,4 +16,4 @@ guineatwirl-seat-left-join-spec =
     (λ c. search needs)
     (λ c. search needs)
     (λ c. search needs)
-    (λ c. let j : tie.After-left-join = search in said (j .left-join .ensures) (c .code .ensures) (c .before .number .ensures)))
+    (λ c. let j : tie.After-left-join = search in let n : tie.After-number = search in said (j .left-join .ensures) (c .code .ensures) (n .number .ensures)))

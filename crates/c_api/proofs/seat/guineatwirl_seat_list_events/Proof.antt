@@ -15,4 +15,4 @@ guineatwirl-seat-list-events-spec =
     (λ c. search needs)
     (λ c. search needs)
     (λ c. search needs)
-    (λ c. let j : tie.After-list-events = search in said (j .list-events .ensures) (c .code .ensures) (c .before .number .ensures)))
+    (λ c. let j : tie.After-list-events = search in let n : tie.After-number = search in said (j .list-events .ensures) (c .code .ensures) (n .number .ensures)))

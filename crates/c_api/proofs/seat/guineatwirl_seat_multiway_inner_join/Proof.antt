@@ -14,4 +14,4 @@ guineatwirl-seat-multiway-inner-join-spec =
     (λ c. search needs)
     (λ c. search needs)
     (λ c. search needs)
-    (λ c. let j : tie.After-multiway-inner-join = search in said (j .multiway-inner-join .ensures) (c .code .ensures) (c .before .number .ensures)))
+    (λ c. let j : tie.After-multiway-inner-join = search in let n : tie.After-number = search in said (j .multiway-inner-join .ensures) (c .code .ensures) (n .number .ensures)))

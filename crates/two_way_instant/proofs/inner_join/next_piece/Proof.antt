@@ -1,7 +1,6 @@
 -- `two_way_instant::inner_join::next_piece` meets its contract: a range that ends before the other starts changes nothing, and an overlap is the piece that comes next. Assumes nothing.
 use Prim.Native.Nat.{_+_, _-_}
 use mathlib.Core.Path.{refl, _∙_}
-use native.Mathlib.Omega.{arith}
 use borrow.Author.Needs.{needs}
 use Rattle.rules.specs.Lists.{instants}
 use Rattle.rules.specs.declared.Pairing.the-variants.{Inner}
@@ -30,16 +29,18 @@ Read = tie.After-key-at2 Inv-loop μ-loop
 abbrev loop : Read → Loop
 loop r = r .before .before .before .before
 
-abbrev start : Read → Start
-start r = loop r .before .before .before .before .before
+start : Read → Start
+start r = search
 
 -- both lists have a range left there
 ranges : (r : Read) → Ranges (two-of instants (start r .args .starts .now) (start r .args .ends .now) (start r .args .middle)) (record { left = loop r .loop .left; right = loop r .loop .right }) (r .before .key-at .result) (r .key-at2 .result)
+unfolding start
 ranges r =
     let b = r .before .before in
     record { ready = loop r .loop .inv .ready; left = b .before .if1 .left; right = b .if2 .left; left-end = r .before .key-at .ensures; right-end = r .key-at2 .ensures }
 
 pub next-piece-spec : {M : Type 1} → statement M
+unfolding start
 next-piece-spec =
     tie.close
     (tie.spec

@@ -14,18 +14,20 @@ use Rattle.two_way_seat.proofs.full_join.next_piece.Tie as tie
 abbrev Read : Type 0
 Read = tie.After-key-at2
 
-abbrev start : Read → tie.Start
-start r = r .before .before .before .before .before .before .before .before
+start : Read → tie.Start
+start r = search
 
 abbrev left-read : Read → tie.After-key-at
 left-read r = r .before .before
 
 -- both lists have a range left there
 ranges : (r : Read) → Ranges (two-of seats (start r .args .starts .now) (start r .args .ends .now) (start r .args .middle)) (start r .args .cursor) (left-read r .key-at .result) (r .key-at2 .result)
+unfolding start
 ranges r =
     record { ready = start r .pre; left = left-read r .before .if1 .taken; right = r .before .if2 .taken; left-end = left-read r .key-at .ensures; right-end = r .key-at2 .ensures }
 
 pub next-piece-spec : {M : Type 1} → statement M
+unfolding start
 next-piece-spec =
     tie.close
     (tie.spec

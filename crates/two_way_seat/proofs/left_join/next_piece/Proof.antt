@@ -1,7 +1,6 @@
 -- `two_way_seat::left_join::next_piece` meets its contract: a right range that is skipped changes nothing, and each other way takes off the piece that comes next. Assumes nothing.
 use Prim.Native.Nat.{_-_}
 use mathlib.Core.Path.{refl}
-use native.Mathlib.Omega.{arith}
 use borrow.Author.Needs.{needs}
 use Rattle.rules.specs.Lists.{seats}
 use Rattle.rules.specs.declared.Pairing.the-variants.{Left}
@@ -36,15 +35,17 @@ loop r = r .before .before
 abbrev left-read : Read → LeftRead
 left-read r = loop r .before .before
 
-abbrev start : Read → Start
-start r = left-read r .before .before .before .before .before
+start : Read → Start
+start r = search
 
 -- both lists have a range left there
 ranges : (r : Read) → Ranges (two-of seats (start r .args .starts .now) (start r .args .ends .now) (start r .args .middle)) (record { left = start r .args .cursor .left; right = loop r .loop .right }) (left-read r .key-at .result) (r .key-at2 .result)
+unfolding start
 ranges r =
     record { ready = loop r .loop .inv .ready; left = left-read r .before .if1 .left; right = r .before .if2 .left; left-end = left-read r .key-at .ensures; right-end = r .key-at2 .ensures }
 
 pub next-piece-spec : {M : Type 1} → statement M
+unfolding start
 next-piece-spec =
     tie.close
     (tie.spec
