@@ -1,7 +1,6 @@
 -- `multiway_join_instant::pass` meets its contract: the pieces done and the one pending say what the rule says up to the last stretch. Assumes nothing.
-use Prim.Native.Nat.{ℕ, _-_}
+use Prim.Native.Nat.{_-_}
 use mathlib.Core.Path.{refl, _∙_}
-use native.Mathlib.Omega.{arith}
 use borrow.Author.Needs.{needs}
 use mir.Syntax.{w64}
 use Rattle.integer.proofs.Laws.{back}
@@ -12,7 +11,7 @@ use Rattle.multiway_sweep.specs.Steps.{reads}
 use Rattle.join_sweep.specs.Stretches.{after, moment-of, Joining}
 use Rattle.join_sweep.proofs.Begins.{zeros, joining-first, finds-next, finds-none}
 use Rattle.multiway_join.specs.Pieces.{waiting}
-use Rattle.multiway_join.proofs.Going.{Going, going-first, going-long, last-puttable, walked, turn-less, turn-silent, turn-apart, turn-puttable, turn-more}
+use Rattle.multiway_join.proofs.Walks.{Going, going-first, going-long, last-puttable, walked, turn-less, turn-silent, turn-apart, turn-puttable, turn-more}
 use Rattle.multiway_join.proofs.Joins.{lists-formed, lists-few, ruled-out, ruled-in, join, walkable, joined}
 use Rattle.multiway_join_instant.proofs.pass.Statement.{statement}
 use Rattle.multiway_join_instant.proofs.pass.Tie as tie
@@ -38,8 +37,8 @@ Loop = tie.At-loop Inv-loop μ-loop
 abbrev Asked : Type 0
 Asked = tie.After-next-stretch Inv-loop μ-loop
 
-abbrev Found : Type 0
-Found = tie.After-stretch Inv-loop μ-loop
+abbrev Spanned : Type 0
+Spanned = tie.After-stretch Inv-loop μ-loop
 
 abbrev Ruled : Type 0
 Ruled = tie.After-rule-on Inv-loop μ-loop
@@ -56,11 +55,11 @@ entry l = search
 abbrev turn : Asked → Loop
 turn n = search
 
-abbrev asked : Found → Asked
+abbrev asked : Spanned → Asked
 asked f = search
 
-abbrev found : Ruled → Found
-found r = search
+abbrev spanned : Ruled → Spanned
+spanned r = search
 
 abbrev ruled : Told → Ruled
 ruled k = search
@@ -104,12 +103,12 @@ pass-spec =
     let i = l .loop .inv in
     joined (entry l .pre) (walked (i .1) (finds-none instants _ _ _ _ _ (e .enum-told .given .1) (n .next-stretch .ensures _ (i .0))) (p .put .ensures)))
     -- what the join says of the stretch
-    (λ c κs. let f : Found = search in entry (turn (asked f)) .pre .formed .lists-few)
+    (λ c κs. let f : Spanned = search in entry (turn (asked f)) .pre .formed .lists-few)
     (λ c. search needs)
     -- it is admitted with a value: the piece is pushed to what is pending
     (λ c κs.
     let k : Told = search in
-    let f = found (ruled k) in
+    let f = spanned (ruled k) in
     let n = asked f in
     let i = turn n .loop .inv in
     turn-apart (i .1) (finds-next instants _ _ _ _ _ (f .stretch .given .1) (n .next-stretch .ensures _ (i .0)) .0))
@@ -118,7 +117,7 @@ pass-spec =
     let u : Pushed = search in
     let k = told u in
     let r = ruled k in
-    let f = found r in
+    let f = spanned r in
     let n = asked f in
     let l = turn n in
     let i = l .loop .inv in
@@ -127,7 +126,7 @@ pass-spec =
     -- fewer points are left
     (λ c.
     let k : Told = search in
-    let f = found (ruled k) in
+    let f = spanned (ruled k) in
     let n = asked f in
     let i = turn n .loop .inv in
     turn-less (i .1) (finds-next instants _ _ _ _ _ (f .stretch .given .1) (n .next-stretch .ensures _ (i .0)) .0))
@@ -137,7 +136,7 @@ pass-spec =
     let u : Pushed = search in
     let k = told u in
     let r = ruled k in
-    let f = found r in
+    let f = spanned r in
     let n = asked f in
     let l = turn n in
     let i = l .loop .inv in
@@ -146,13 +145,13 @@ pass-spec =
     -- it is not admitted: fewer points are left, and the walk goes on
     (λ c. search needs)
     (λ c.
-    let f : Found = search in
+    let f : Spanned = search in
     let n = asked f in
     let i = turn n .loop .inv in
     turn-less (i .1) (finds-next instants _ _ _ _ _ (f .stretch .given .1) (n .next-stretch .ensures _ (i .0)) .0))
     (λ c.
     let r : Ruled = search in
-    let f = found r in
+    let f = spanned r in
     let n = asked f in
     let l = turn n in
     let i = l .loop .inv in

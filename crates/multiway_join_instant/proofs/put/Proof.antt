@@ -19,7 +19,7 @@ put-spec =
     -- a piece is written
     (λ c κs. let a : tie.Start = search in let h : tie.After-done = search in let t : tie.Then1 = search in let p = placed (h .done .given .1) (a .pre) in (omega (arith, p .roomy (t .if1 .taken)), omega (arith, p .within)))
     (λ c κs. let a : tie.Start = search in let h : tie.After-done = search in let t : tie.Then1 = search in let p = placed (h .done .given .1) (a .pre) in (omega (arith, p .roomy (t .if1 .taken)), omega (arith, p .within)))
-    (λ c. let a : tie.Start = search in let h : tie.After-done = search in omega (arith, placed (h .done .given .1) (a .pre) .few))
+    (λ c. let a : tie.Start = search in let h : tie.After-done = search in let t : tie.Then1 = search in omega (arith, placed (h .done .given .1) (a .pre) .roomy (t .if1 .taken)))
     (λ c. let a : tie.Start = search in let h : tie.After-done = search in let t : tie.Then1 = search in omega (arith, placed (h .done .given .1) (a .pre) .roomy (t .if1 .taken)))
     (λ c. let a : tie.Start = search in let h : tie.After-done = search in omega (arith, placed (h .done .given .1) (a .pre) .few))
     (λ c. search needs)
