@@ -7,8 +7,6 @@ use two_way::LEFT;
 use two_way::NextPair;
 use two_way::Pair;
 use two_way::RIGHT;
-use two_way_instant::next_piece;
-use two_way_instant::side::begin;
 use two_way_pass::first_count;
 use two_way_pass::value_at;
 ghost use mathlib.Core.Path.{_≡_};
@@ -73,10 +71,10 @@ pub fn pass(
         (after «out_start» «out_end» «out_left» «out_right» «out_presence») r ⌝ }
 {
     let middle = first_count(counts);
-    let mut cursor = begin(starts, middle);
+    let mut cursor = two_way_instant::side::begin(starts, middle);
     let mut count: usize = 0;
     loop {
-        let next = next_piece(asked, starts, ends, middle, cursor);
+        let next = two_way_instant::next_piece(asked, starts, ends, middle, cursor);
         let NextPair::Next(pair, rest) = next else {
             return count;
         };
