@@ -1,3 +1,5 @@
+// The form checker over lent columns: what is refused before an operation runs.
+
 use form::Prior;
 use form::Range;
 use form::judge_range;
@@ -6,12 +8,9 @@ use integer::instant::Point;
 use integer::instant::key_at;
 use rules::Judgement;
 use rules::Kind;
-ghost use Prim.Native.Nat.{_-_, _≤_};
-ghost use mathlib.Core.Option.{none};
-ghost use lib.ListN.{length};
-ghost use Rattle.rules.specs.Lists.{instants, keys, ranges, cut, total};
-ghost use Rattle.rules.specs.Answer.{judge, judge-list, judge-lists};
-ghost use Rattle.form.specs.Shape.{Long, Found};
+ghost use Prim.Native.Nat.{_≤_};
+ghost use Rattle.rules.specs.Lists.{instants, total, given};
+ghost use Rattle.form.specs.Shape.{Long, one-list, end-to-end, Looked, Judged};
 
 // The list at places from `from` up to but not `stop`.
 fn judge_list(
@@ -22,7 +21,7 @@ fn judge_list(
     stop: usize,
 ) -> Judgement
     requires { ⌜ (from ≤ stop) × Long (now starts) (now ends) (now values) stop ⌝ }
-    ensures { λ r. ⌜ Found instants (now (ends .entry)) from stop (judge-list none (ranges (keys instants (now (starts .entry))) (keys instants (now (ends .entry))) (λ i. i) from (stop - from))) r ⌝ }
+    ensures { λ r. ⌜ Looked instants (now (ends .entry)) from stop (one-list instants starts ends from stop) r ⌝ }
 {
     let mut prior = Prior::Nothing;
     let mut i = from;
@@ -45,7 +44,7 @@ fn judge_list(
 // Lists that lie end to end.
 fn judge_lists(starts: &[Point], ends: &[Point], values: &[i32], counts: &[u32]) -> Judgement
     requires { ⌜ Long (now starts) (now ends) (now values) (total (now counts)) ⌝ }
-    ensures { λ r. ⌜ Found instants (now (ends .entry)) 0 (total (now (counts .entry))) (judge-lists (cut (keys instants (now (starts .entry))) (keys instants (now (ends .entry))) (λ i. i) 0 (now (counts .entry)))) r ⌝ }
+    ensures { λ r. ⌜ Looked instants (now (ends .entry)) 0 (total (now (counts .entry))) (end-to-end instants starts ends counts) r ⌝ }
 {
     let mut from: usize = 0;
     let mut k: usize = 0;
@@ -69,7 +68,7 @@ pub fn judge(
     values: &[i32],
     counts: &[u32],
 ) -> Judgement
-    ensures { λ r. ⌜ Found instants (now (ends .entry)) 0 (length (now (ends .entry))) (judge instants kind (record { starts = now (starts .entry); ends = now (ends .entry); values = now (values .entry); counts = now (counts .entry) })) r ⌝ }
+    ensures { λ r. ⌜ Judged instants kind (given starts ends values counts) r ⌝ }
 {
     let shape = judge_shape(kind, starts.len(), ends.len(), values.len(), counts);
     let Judgement::Sound = shape else {

@@ -2,7 +2,7 @@
 use mathlib.Core.Path.{sym, _∙_}
 use borrow.Author.Needs.{needs}
 use Rattle.rules.specs.Lists.{instants}
-use Rattle.form.proofs.Laws.{passes, stops, judge-parts, shape-long, found-refused, found-all}
+use Rattle.form.proofs.Laws.{passes, stops, judge-parts, shape-long, judged-refused, judged}
 use Rattle.form_instant.proofs.judge.Statement.{statement}
 use Rattle.form_instant.proofs.judge.Tie as tie
 
@@ -13,8 +13,8 @@ judge-spec =
     (λ c κs. search needs)
     (λ c. search needs)
     (λ c. search needs)
-    (λ c. found-refused instants _ (stops _ (judge-parts instants _ _) (c .before .before .judge-shape .ensures) (c .enum-told2 .given .1)) (c .enum-told2 .given .1))
+    (λ c. judged-refused instants _ _ (stops _ (judge-parts instants _ _) (c .before .before .judge-shape .ensures) (c .enum-told2 .given .1)) (c .enum-told2 .given .1))
     (λ c κs. shape-long _ _ _ _ _ (c .before .before .judge-shape .ensures) (c .enum-told .given .1))
     (λ c.
     let s = c .before .before .before in
-    found-all instants _ _ (c .judge-lists .ensures) (c .judge-lists .ensures .is ∙ sym (passes _ (judge-parts instants _ _) (s .judge-shape .ensures) (c .before .enum-told .given .1)))))
+    judged instants _ _ (c .judge-lists .ensures) (c .judge-lists .ensures .is ∙ sym (passes _ (judge-parts instants _ _) (s .judge-shape .ensures) (c .before .enum-told .given .1)))))

@@ -6,7 +6,7 @@ use native.Mathlib.Omega.{arith}
 use borrow.Author.Needs.{needs}
 use Rattle.rules.specs.Lists.{instants, keys}
 use Rattle.form.specs.Shape.{ended, Low}
-use Rattle.form.proofs.Laws.{passes, stops, list-from, list-next, list-done, low-more, found-refused}
+use Rattle.form.proofs.Laws.{passes, stops, list-from, list-next, list-done, low-more, looked-refused}
 use Rattle.form_instant.proofs.judge_list.Statement.{statement}
 use Rattle.form_instant.proofs.judge_list.Tie as tie
 
@@ -34,7 +34,7 @@ judge-list-spec =
     (λ c.
     let r = c .before .before in
     let t = r .before .before .before .before in
-    found-refused instants _ (stops _ (list-next _ _ _ _ _ (t .loop-test .taken) (r .before .before .before .key-at .ensures .is) (r .before .before .key-at2 .ensures .is)) (r .judge-range .ensures) (c .enum-told2 .given .1) ∙ sym (t .before .loop .inv .1)) (c .enum-told2 .given .1))
+    looked-refused instants _ (stops _ (list-next _ _ _ _ _ (t .loop-test .taken) (r .before .before .before .key-at .ensures .is) (r .before .before .key-at2 .ensures .is)) (r .judge-range .ensures) (c .enum-told2 .given .1) ∙ sym (t .before .loop .inv .1)) (c .enum-told2 .given .1))
     (λ c. search needs)
     (λ c. search needs)
     (λ c.

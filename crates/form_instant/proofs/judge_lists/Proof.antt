@@ -7,7 +7,7 @@ use borrow.Author.Needs.{needs}
 use Rattle.rules.specs.Lists.{instants, keys, total}
 use Rattle.rules.proofs.Columns.{total-more}
 use Rattle.form.specs.Shape.{Low}
-use Rattle.form.proofs.Laws.{passes, stops, lists-from, lists-next, lists-done, low-join, found-refused}
+use Rattle.form.proofs.Laws.{passes, stops, lists-from, lists-next, lists-done, low-join, looked-refused}
 use Rattle.form_instant.proofs.judge_lists.Statement.{statement}
 use Rattle.form_instant.proofs.judge_lists.Tie as tie
 
@@ -35,7 +35,7 @@ judge-lists-spec =
     (λ c.
     let r = c .before .before in
     let t = r .before .before in
-    found-refused instants _ (stops _ (lists-next _ _ _ _ _ _ (t .loop-test .taken) refl) (r .judge-list .ensures .is) (c .enum-told2 .given .1) ∙ sym (t .before .loop .inv .2)) (c .enum-told2 .given .1))
+    looked-refused instants _ (stops _ (lists-next _ _ _ _ _ _ (t .loop-test .taken) refl) (r .judge-list .ensures .is) (c .enum-told2 .given .1) ∙ sym (t .before .loop .inv .2)) (c .enum-told2 .given .1))
     (λ c. search needs)
     (λ c. search needs)
     (λ c.
