@@ -83,21 +83,21 @@ pub record Going {P : Type 0} (w : Width P) (o : Pairing) (l : Lent P) (m : ℕ)
   pub laid : d ≡ lays w (l .values) write from (take n (pairs w o l)) c
 
 module _ {P : Type 0} {w : Width P} {o : Pairing} {l : Lent P} {m : ℕ} {write : Bool} {from : ℕ} {c d : Paired P} {k : Cursor} {n : ℕ} (g : Going w o l m write from c d k n) where
-  abbrev all : List (Piece Match)
-  all = pairs w o l
+  abbrev ps : List (Piece Match)
+  ps = pairs w o l
 
   pub going-long : Long (lengths d) (lengths c)
-  going-long = rw (g .laid) (lays-long w (l .values) from c write (take n all) (λ e. omega (arith, length-take n all, g .roomy e)))
+  going-long = rw (g .laid) (lays-long w (l .values) from c write (take n ps) (λ e. omega (arith, length-take n ps, g .roomy e)))
 
   module _ {r : NextPair} {y : Pair} {j : Cursor} (e : Stepped (both w l m) o k r) (q : r ≡ Next y j) where
     s : Took (both w l m) o k y j
     s = subst (Stepped (both w l m) o k) q e
 
-    next : drop n all ≡ piece-of y ∷ remains (both w l m) o j
+    next : drop n ps ≡ piece-of y ∷ remains (both w l m) o j
     next = g .rests ∙ s .next
 
-    pub going-lt : n < length all
-    going-lt = drop-lt all n (piece-of y) _ next
+    pub going-lt : n < length ps
+    going-lt = drop-lt ps n (piece-of y) _ next
 
     pub going-few : n < 4095
     going-few = omega (arith, going-lt, pairs-upto (g .formed) o, g .formed .ranges-few)
@@ -122,16 +122,16 @@ module _ {P : Type 0} {w : Width P} {o : Pairing} {l : Lent P} {m : ℕ} {write 
             formed = g .formed;
             roomy = g .roomy;
             ready = s .ready;
-            rests = drop-more all n (piece-of y) _ next;
+            rests = drop-more ps n (piece-of y) _ next;
             below = omega (arith, going-lt);
-            laid = u .is ∙ rw (p, g .laid) (lays-more w (l .values) from c write all n y _ next (g .roomy));
+            laid = u .is ∙ rw (p, g .laid) (lays-more w (l .values) from c write ps n y _ next (g .roomy));
           }
 
   -- no piece is left
-  pub going-last : {r : NextPair} → Stepped (both w l m) o k r → r ≡ Done → (n ≡ length all) × (d ≡ lays w (l .values) write from all c)
+  pub going-last : {r : NextPair} → Stepped (both w l m) o k r → r ≡ Done → (n ≡ length ps) × (d ≡ lays w (l .values) write from ps c)
   going-last e q =
-      let h = drop-none all n (g .rests ∙ subst (Stepped (both w l m) o k) q e) in
-      (omega (arith, g .below), g .laid ∙ ap (λ xs. lays w (l .values) write from xs c) (take-all n all h))
+      let h = drop-none ps n (g .rests ∙ subst (Stepped (both w l m) o k) q e) in
+      (omega (arith, g .below), g .laid ∙ ap (λ xs. lays w (l .values) write from xs c) (take-all n ps h))
 
 -- from the first ranges on
 pub going-first : {P : Type 0} {w : Width P} {o : Pairing} {l : Lent P} {m : ℕ} {write : Bool} {from : ℕ} {c : Paired P} → Formed w TwoWay l → m ≡ first (l .counts) → (write ≡ true → from + length (pairs w o l) ≤ room c) → {k : Cursor} → Begun w (l .starts) m k → Going w o l m write from c c k 0

@@ -73,10 +73,10 @@ pub fn pass(
         (after «out_start» «out_end» «out_left» «out_right» «out_presence») r ⌝ }
 {
     let middle = first_count(counts);
-    let mut cursor = begin(starts, middle);
+    let mut cursor = two_way_instant::side::begin(starts, middle);
     let mut count: usize = 0;
     loop {
-        let next = next_piece(asked, starts, ends, middle, cursor);
+        let next = two_way_instant::next_piece(asked, starts, ends, middle, cursor);
         let NextPair::Next(pair, rest) = next else {
             return count;
         };

@@ -9,8 +9,6 @@ use two_way::Pair;
 use two_way::RIGHT;
 use two_way_pass::first_count;
 use two_way_pass::value_at;
-use two_way_seat::next_piece;
-use two_way_seat::side::begin;
 ghost use mathlib.Core.Path.{_≡_};
 ghost use mathlib.Core.Bool.{true};
 ghost use Rattle.rules.specs.Lists.{seats, lent, given};
@@ -73,10 +71,10 @@ pub fn pass(
         (after «out_start» «out_end» «out_left» «out_right» «out_presence») r ⌝ }
 {
     let middle = first_count(counts);
-    let mut cursor = begin(starts, middle);
+    let mut cursor = two_way_seat::side::begin(starts, middle);
     let mut count: usize = 0;
     loop {
-        let next = next_piece(asked, starts, ends, middle, cursor);
+        let next = two_way_seat::next_piece(asked, starts, ends, middle, cursor);
         let NextPair::Next(pair, rest) = next else {
             return count;
         };
