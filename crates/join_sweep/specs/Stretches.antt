@@ -6,10 +6,10 @@ use mathlib.Core.List.{List}
 use lib.IntN.{ℤ}
 use lib.ListN.{length}
 use Rattle.heap.specs.Heap.{entries-of, Whole}
-use Rattle.rules.specs.Piece.{Range, present, AllWellFormed}
+use Rattle.rules.specs.Piece.{Range, AllWellFormed}
 use Rattle.rules.specs.Lists.{Width}
 use Rattle.rules.specs.Sweep as rules
-use Rattle.slots.specs.Slots.{Slots, active}
+use Rattle.slots.specs.Slots.{Slots, active, Counted}
 use Rattle.slots.specs.Stretch.{Stretch as StretchOf, NoStretch}
 use Rattle.multiway_sweep.specs.Front.{edge, Front, Next as Due}
 use Rattle.multiway_sweep.specs.Steps.{Reading, Arrays, NoStart, On, Holds}
@@ -85,11 +85,6 @@ pub record Blank (a : Arrays) : Type 0 where
   pub cursors-long : length (a .cursors) ≡ 32
   pub starts-whole : Whole (entries-of (a .start-keys) (a .start-lists))
   pub ends-whole : Whole (entries-of (a .end-keys) (a .end-lists))
-
--- so many of the lists are active
-pub record Counted (lists n : ℕ) (s : Slots) : Type 0 where
-  pub few : lists ≤ 16
-  pub count : n ≡ length (present (active lists s))
 
 module _ {P : Type 0} (w : Width P) (c : Reading P) where
   -- of the events that are left the first is held

@@ -1,13 +1,15 @@
 -- Admissions and picks by places: every place has something, some place has, an odd number have; and the last that has something. Then what each operation says. Assumes nothing.
-use Prim.Native.Nat.{ℕ, zero, suc, _%_, _<_}
+use Prim.Native.Nat.{ℕ, zero, suc, _%_, _≤_, _<_}
 use mathlib.Core.Path.{_≡_, refl, sym, ap, _∙_}
 use mathlib.Core.Logic.{_↔_, _⊎_, inl, inr, ⊎-elim}
 use mathlib.Core.Bool.{Bool, true, false, cond, not, true≢false, false≢true}
 use mathlib.Core.Option.{Option, none, some}
 use mathlib.Core.List.{List, [], _∷_}
 use native.Mathlib.Omega.{arith}
+use lib.Dec.{eqb, ltb}
 use lib.IntN.{ℤ}
 use lib.ListN.{length, getD}
+use borrow.Author.Tests.{eq-eqb, ne-eqb, eqb-true, eqb-false, lt-ltb}
 use Rattle.rules.specs.Piece.{there, present}
 use Rattle.rules.proofs.Same.{none≢some}
 use Rattle.rules.proofs.Present.{Something}
@@ -18,6 +20,19 @@ use Rattle.many_way_rules.specs.declared.Admission.{Admission}
 use Rattle.many_way_rules.specs.declared.Admission.the-variants.{Every, Any, Odd}
 use Rattle.many_way_rules.specs.declared.Pick.the-variants.{Highest}
 use Rattle.many_way_rules.specs.declared.Operation.{Operation}
+
+-- an admission by how many lists there are, and how many of them are present
+abbrev pub by-number : Admission → ℕ → ℕ → Bool
+by-number Every lists n = eqb n lists
+by-number Any lists n = ltb 0 n
+by-number Odd lists n = eqb (n % 2) 1
+
+both-more : (a b : ℕ) → eqb (suc a) (suc b) ≡ eqb a b
+both-more a b = go (eqb a b) refl
+  where
+    go : (t : Bool) → eqb a b ≡ t → eqb (suc a) (suc b) ≡ t
+    go true e = eq-eqb (suc a) (suc b) (ap suc (eqb-true a b e))
+    go false e = ne-eqb (suc a) (suc b) (λ q. eqb-false a b e (omega arith))
 
 module _ {A : Type 0} where
   -- which points an admission takes, of what the lists have there
@@ -48,6 +63,21 @@ module _ {A : Type 0} where
   place-some (none ∷ os) (suc i) s = place-some os i s
   place-some (some v ∷ os) i s = refl
 
+  present-upto : (os : List (Option A)) → length (present os) ≤ length os
+  present-upto [] = omega arith
+  present-upto (none ∷ os) = omega (arith, present-upto os)
+  present-upto (some v ∷ os) = omega (arith, present-upto os)
+
+  every-number : (os : List (Option A)) → eqb (length (present os)) (length os) ≡ in-every os
+  every-number [] = refl
+  every-number (none ∷ os) = ne-eqb (length (present os)) (length (none ∷ os)) (λ q. omega (arith, present-upto os))
+  every-number (some v ∷ os) = both-more (length (present os)) (length os) ∙ every-number os
+
+  any-number : (os : List (Option A)) → ltb 0 (length (present os)) ≡ in-any os
+  any-number [] = refl
+  any-number (none ∷ os) = any-number os
+  any-number (some v ∷ os) = lt-ltb 0 (length (v ∷ present os)) (omega arith)
+
   parity : (os : List (Option A)) → cond (in-odd os) 1 0 ≡ length (present os) % 2
   parity [] = refl
   parity (none ∷ os) = parity os
@@ -60,6 +90,16 @@ module _ {A : Type 0} where
   odd-number : (os : List (Option A)) (t : Bool) → in-odd os ≡ t → (t ≡ true) ↔ Admits Odd os
   odd-number os true e = (λ q. sym (parity os) ∙ ap (λ b. cond b 1 0) e, λ q. refl)
   odd-number os false e = (λ q. absurd (false≢true q), λ q. absurd (omega (arith, sym (parity os) ∙ ap (λ b. cond b 1 0) e)))
+
+  -- the same told by how many lists there are, and how many of them are present
+  pub admitted-number : (a : Admission) (os : List (Option A)) → by-number a (length os) (length (present os)) ≡ admitted a os
+  admitted-number Every os = every-number os
+  admitted-number Any os = any-number os
+  admitted-number Odd os = go (in-odd os) (parity os)
+    where
+      go : (t : Bool) → cond t 1 0 ≡ length (present os) % 2 → eqb (length (present os) % 2) 1 ≡ t
+      go true e = eq-eqb (length (present os) % 2) 1 (sym e)
+      go false e = ne-eqb (length (present os) % 2) 1 (λ q. omega arith)
 
   pub admitted-exactly : (a : Admission) (os : List (Option A)) → (admitted a os ≡ true) ↔ Admits a os
   admitted-exactly Every os = (every-place os, place-every os)

@@ -20,7 +20,7 @@ use Rattle.rules.proofs.Same.{decides-ℤ}
 use Rattle.many_way_rules.specs.Operations.{rule-of, merged}
 use Rattle.many_way_rules.specs.declared.Operation.{Operation}
 use Rattle.many_way_rules.proofs.Room.{rule-nones, merged-enough}
-use Rattle.slots.specs.Slots.{Slots, active}
+use Rattle.slots.specs.Slots.{Slots, active, Counted}
 use Rattle.slots.specs.Stretch.{Stretch}
 use Rattle.multiway_join.specs.Pieces.{ruling-of}
 use Rattle.multiway_join.specs.Passes.{PutPieces, Joinable}
@@ -36,6 +36,10 @@ module _ {P : Type 0} {w : Width P} {k : Kind} {l : Lent P} (f : Formed w k l) w
 
   pub lists-few : length (lists w l) ≤ 16
   lists-few = omega (arith, lists-length w l, f .lists-few)
+
+  -- they are as many as their counts
+  pub lists-counted : {n : ℕ} {s : Slots} → Counted (length (lists w l)) n s → Counted (length (l .counts)) n s
+  lists-counted c = rw (lists-length w l) at c
 
 -- where there is a list, no operation admits a point at which none has anything
 pub nothing-there : (o : Operation) (ls : List (List Range)) → 0 < length ls → rule-of o (nones ls) ≡ none

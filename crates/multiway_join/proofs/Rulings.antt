@@ -1,16 +1,23 @@
 -- What a join says by the presence of its lists and its combiner's answer. Assumes nothing.
 use Prim.Native.Nat.{ℕ, _≤_, min}
-use mathlib.Core.Path.{_≡_, sym, _∙_}
+use mathlib.Core.Path.{_≡_, sym, _∙_, subst}
 use mathlib.Core.Bool.{Bool, true, false}
 use mathlib.Core.Option.{Option, none}
 use native.Mathlib.Omega.{arith}
 use lib.IntN.{ℤ}
+use lib.ListN.{length}
 use Rattle.many_way_rules.specs.Combiners.{combine}
 use Rattle.many_way_rules.specs.Selections.{admitted}
 use Rattle.many_way_rules.specs.Operations.{rule-of}
 use Rattle.many_way_rules.specs.declared.Admission.{Admission}
 use Rattle.many_way_rules.specs.declared.Operation.the-variants.{Join}
-use Rattle.slots.specs.Slots.{Slots, active, values-of}
+use Rattle.many_way_rules.proofs.Selections.{by-number, admitted-number}
+use Rattle.slots.specs.Slots.{Slots, active, values-of, Counted}
+use Rattle.slots.proofs.Slots.{active-length}
+
+-- an admission goes by how many lists are present
+pub admits-number : (a : Admission) {lists n : ℕ} {s : Slots} → Counted lists n s → by-number a lists n ≡ admitted a (active lists s)
+admits-number a {lists} {n} {s} c = rw (c .count) (subst (λ m. by-number a m (length (values-of lists s)) ≡ admitted a (active lists s)) (active-length lists s) (admitted-number a (active lists s)))
 
 module _ (a : Admission) (combiner n : ℕ) (s : Slots) {t : Bool} (e : t ≡ admitted a (active n s)) where
   pub not-admitted : t ≡ false → none ≡ rule-of (Join a combiner) (active n s)

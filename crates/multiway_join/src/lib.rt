@@ -5,16 +5,14 @@ use combine::combine;
 use many_way_rules::Admission;
 use rules::shorter;
 ghost use Prim.Native.Nat.{_*_, _-_, _<_, _≤_, min};
-ghost use mathlib.Core.List.{List};
 ghost use mathlib.Core.Path.{_≡_};
-ghost use lib.IntN.{ℤ};
 ghost use Rattle.rules.specs.Piece.{Within};
 ghost use Rattle.rules.specs.Runs.{touch};
 ghost use Rattle.rules.specs.Same.{eqℤ};
-ghost use Rattle.many_way_rules.specs.Selections.{in-every, in-any, in-odd, admitted};
+ghost use Rattle.many_way_rules.specs.Selections.{admitted};
 ghost use Rattle.many_way_rules.specs.Operations.{rule-of};
 ghost use Rattle.many_way_rules.specs.declared.Operation.the-variants.{Join};
-ghost use Rattle.slots.specs.Slots.{active, slots-with, slots-before};
+ghost use Rattle.slots.specs.Slots.{Slots, active, Counted, slots, slots-before};
 ghost use Rattle.multiway_join.specs.Pieces.{ruling-of, piece-of, waiting, PushedOn};
 
 // What a join says of a stretch: not admitted, or admitted with a value.
@@ -41,73 +39,30 @@ pub struct Pushed {
     pub done: Pending,
 }
 
-fn in_every(lists: usize, present: &[bool; 16]) -> bool
-    requires { ⌜ lists ≤ 16 ⌝ }
-    ensures { λ r. ⌜ ((current : List ℤ) → r ≡ in-every (active lists (slots-with current present))) ⌝ }
-{
-    let mut i: usize = 0;
-    while i < lists {
-        if !present[i] {
-            return false;
-        }
-        i += 1;
-    }
-    true
-}
-
-fn in_any(lists: usize, present: &[bool; 16]) -> bool
-    requires { ⌜ lists ≤ 16 ⌝ }
-    ensures { λ r. ⌜ ((current : List ℤ) → r ≡ in-any (active lists (slots-with current present))) ⌝ }
-{
-    let mut i: usize = 0;
-    while i < lists {
-        if present[i] {
-            return true;
-        }
-        i += 1;
-    }
-    false
-}
-
-fn in_odd(lists: usize, present: &[bool; 16]) -> bool
-    requires { ⌜ lists ≤ 16 ⌝ }
-    ensures { λ r. ⌜ ((current : List ℤ) → r ≡ in-odd (active lists (slots-with current present))) ⌝ }
-{
-    let mut odd = false;
-    let mut i: usize = lists;
-    while 0 < i {
-        i -= 1;
-        if present[i] {
-            odd = !odd;
-        }
-    }
-    odd
-}
-
-// Whether a point is admitted at which the lists are present as the places say, whatever their values.
-pub fn admits(admission: Admission, lists: usize, present: &[bool; 16]) -> bool
-    requires { ⌜ lists ≤ 16 ⌝ }
-    ensures { λ r. ⌜ ((current : List ℤ) → r ≡ admitted admission (active lists (slots-with current present))) ⌝ }
+// Whether a point is admitted at which so many of the lists are present.
+pub fn admits(admission: Admission, lists: usize, how_many: usize) -> bool
+    ensures { λ r. ⌜ ((s : Slots) → Counted lists «how_many» s → r ≡ admitted admission (active lists s)) ⌝ }
 {
     match admission {
-        Admission::Every => in_every(lists, present),
-        Admission::Any => in_any(lists, present),
-        Admission::Odd => in_odd(lists, present),
+        Admission::Every => how_many == lists,
+        Admission::Any => 0 < how_many,
+        Admission::Odd => how_many % 2 == 1,
     }
 }
 
-// What a join says of a stretch on which the lists have what the places hold.
+// What a join says of a stretch on which the lists have what the places hold, so many of them something.
 pub fn rule_on(
     admission: Admission,
     combiner: u8,
     lists: usize,
+    how_many: usize,
     current: &[i32; 16],
     present: &[bool; 16],
 ) -> Ruling
-    requires { ⌜ lists ≤ 16 ⌝ }
+    requires { ⌜ Counted lists «how_many» (slots current present) ⌝ }
     ensures { λ r. ⌜ ruling-of r ≡ rule-of (Join admission combiner) (active lists (slots-before current present)) ⌝ }
 {
-    if !admits(admission, lists, present) {
+    if !admits(admission, lists, how_many) {
         return Ruling::Nothing;
     }
     let combined = combine(combiner, lists, current, present);

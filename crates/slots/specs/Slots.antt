@@ -1,10 +1,11 @@
 -- What the lists have, as the code holds it: sixteen values, and which of them are present. Assumes nothing.
-use Prim.Native.Nat.{ℕ, zero, suc}
+use Prim.Native.Nat.{ℕ, zero, suc, _≤_}
+use mathlib.Core.Path.{_≡_}
 use mathlib.Core.Bool.{Bool, false, cond}
 use mathlib.Core.Option.{Option, none, some}
 use mathlib.Core.List.{List, [], _∷_}
 use lib.IntN.{ℤ, pos}
-use lib.ListN.{getD}
+use lib.ListN.{length, getD}
 use Rattle.rules.specs.Piece as pieces
 use Rattle.rules.specs.Lists.{Column, Columns}
 
@@ -42,3 +43,8 @@ active lists s = slots-from s 0 lists
 -- the values of so many lists, where they are present
 abbrev pub values-of : ℕ → Slots → List ℤ
 values-of lists s = pieces.present (active lists s)
+
+-- so many of the lists, of which there are places for all, are present
+pub record Counted (lists n : ℕ) (s : Slots) : Type 0 where
+  pub few : lists ≤ 16
+  pub count : n ≡ length (values-of lists s)

@@ -1,6 +1,8 @@
--- `multiway_join::admits` meets its contract. Assumes nothing.
+-- `multiway_join::admits` meets its contract: each admission by its case. Assumes nothing.
 use mathlib.Core.Path.{_∙_}
 use borrow.Author.Needs.{needs}
+use Rattle.many_way_rules.specs.declared.Admission.the-variants.{Every, Any, Odd}
+use Rattle.multiway_join.proofs.Rulings.{admits-number}
 use Rattle.multiway_join.proofs.admits.Statement.{statement}
 use Rattle.multiway_join.proofs.admits.Tie as tie
 
@@ -9,12 +11,8 @@ admits-spec =
     tie.close
     (tie.spec
     (λ c. search needs)
-    (λ c κs. search needs)
     (λ c. search needs)
-    (λ c κs. search needs)
     (λ c. search needs)
-    (λ c κs. search needs)
-    -- each admission by its case
-    (λ c current. c .in-every .ensures current ∙ rw (c .before .enum-told .given .1))
-    (λ c current. c .in-any .ensures current ∙ rw (c .before .enum-told2 .given .1))
-    (λ c current. c .in-odd .ensures current ∙ rw (c .before .enum-told3 .given .1)))
+    (λ c s k. admits-number Every k ∙ rw (c .enum-told .given .1))
+    (λ c s k. admits-number Any k ∙ rw (c .enum-told2 .given .1))
+    (λ c s k. admits-number Odd k ∙ rw (c .enum-told3 .given .1)))

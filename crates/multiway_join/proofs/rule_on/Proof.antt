@@ -20,10 +20,10 @@ rule-on-spec =
     (tie.spec
     (λ c κs. search needs)
     -- the point is not admitted
-    (λ c. let a : tie.Start = search in not-admitted (a .args .admission) (a .args .combiner) (a .args .lists) (places a) (c .before .admits .ensures (a .args .current .now)) (not-true _ (c .if1 .taken)))
+    (λ c. let a : tie.Start = search in not-admitted (a .args .admission) (a .args .combiner) (a .args .lists) (places a) (c .before .admits .ensures (places a) (a .pre)) (not-true _ (c .if1 .taken)))
     (λ c κs. search needs)
     (λ c. search needs)
     (λ c. search needs)
     -- it is, and the combiner has no answer, or has one
-    (λ c. let a : tie.Start = search in let d : tie.After-admits = search in let e : tie.Else1 = search in let f : tie.After-combine = search in admitted-with (a .args .admission) (a .args .combiner) (a .args .lists) (places a) (d .admits .ensures (a .args .current .now)) (not-false _ (e .if1 .left)) (a .pre) (sym (ap answer (c .enum-told .given .1)) ∙ f .combine .ensures))
-    (λ c. let a : tie.Start = search in let d : tie.After-admits = search in let e : tie.Else1 = search in let f : tie.After-combine = search in admitted-with (a .args .admission) (a .args .combiner) (a .args .lists) (places a) (d .admits .ensures (a .args .current .now)) (not-false _ (e .if1 .left)) (a .pre) (ap some (back w64 _ (c .known-told .given .0 .1)) ∙ sym (ap answer (c .before .combined .given .1)) ∙ f .combine .ensures)))
+    (λ c. let a : tie.Start = search in let d : tie.After-admits = search in let e : tie.Else1 = search in let f : tie.After-combine = search in admitted-with (a .args .admission) (a .args .combiner) (a .args .lists) (places a) (d .admits .ensures (places a) (a .pre)) (not-false _ (e .if1 .left)) (a .pre .few) (sym (ap answer (c .enum-told .given .1)) ∙ f .combine .ensures))
+    (λ c. let a : tie.Start = search in let d : tie.After-admits = search in let e : tie.Else1 = search in let f : tie.After-combine = search in admitted-with (a .args .admission) (a .args .combiner) (a .args .lists) (places a) (d .admits .ensures (places a) (a .pre)) (not-false _ (e .if1 .left)) (a .pre .few) (ap some (back w64 _ (c .known-told .given .0 .1)) ∙ sym (ap answer (c .before .combined .given .1)) ∙ f .combine .ensures)))
