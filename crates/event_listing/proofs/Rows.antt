@@ -11,10 +11,10 @@ use Rattle.rules.specs.Piece.{Piece, AllWellFormed}
 use Rattle.rules.specs.Lists.{Width, Lent, lists}
 use Rattle.rules.specs.Answer.{laid}
 use Rattle.rules.specs.Sweep.{Event, point, kind, list, own, listed, events, All}
-use Rattle.rules.specs.Listed.{Listed, event-value, lengths, room, lay}
+use Rattle.rules.specs.Listed.{Listed, event-value, lengths, lay}
 use Rattle.rules.specs.Proving.Long.{Long}
 use Rattle.rules.proofs.Columns.{lists-length}
-use Rattle.rules.proofs.Fronts.{drop-lt, drop-more, drop-none, laid-long, laid-more, laid-nothing, same-room}
+use Rattle.rules.proofs.Fronts.{drop-lt, drop-more, drop-none, laid-long, laid-more, same-room}
 use Rattle.rules.proofs.Sweep.{all-both, all-append, all-right, all-sort, own-list, own-point}
 use Rattle.multiway_sweep.specs.Steps.{Arrays, reads, sizes-after, On, Sweeping, Took, Holds}
 use Rattle.multiway_sweep.specs.Begins.{events-of, Fills}

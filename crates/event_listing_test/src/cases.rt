@@ -1,3 +1,5 @@
+// The cases, as letters of a table.
+
 ghost use Prim.Native.Nat.{_<_, _≤_};
 
 // A case: how many ranges, and each one's start and end; how many lists, and each one's count; the room in the column of

@@ -1,3 +1,5 @@
+// The cases listed over the points of one width.
+
 use crate::cases::counts;
 use crate::cases::letter;
 use crate::cases::size;
@@ -44,6 +46,7 @@ fn list(starts: &[Point], ends: &[Point], values: &[i32], counts: &[u32], room: 
     }
 }
 
+// The point that a letter stands for.
 fn point(letter: u8) -> Point {
     match letter {
         b'a' => least(),
@@ -63,6 +66,7 @@ fn points(row: usize, from: usize) -> [Point; 3]
     ]
 }
 
+// Lists a case.
 pub(crate) fn list_case(row: usize)
     requires { ⌜ row < 17 ⌝ }
 {

@@ -1,4 +1,5 @@
-// Fills a heap in several orders and writes the lists of its entries as they leave it, a letter each: a to p, and A to P for those that took the place of a top.
+// Fills a heap in several orders and writes the lists of its entries as they leave it, a letter each: a to p, and A to P for
+// those that took the place of a top.
 ghost use Prim.Native.Nat.{_<_};
 ghost use Rattle.heap.specs.Heap.{entries, entries-after, Whole, Heap};
 use heap::pop;

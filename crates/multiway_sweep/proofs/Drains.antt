@@ -12,8 +12,8 @@ use Rattle.rules.specs.declared.Kind.{Kind}
 use Rattle.rules.proofs.Fronts.{drop-lt, drop-more}
 use Rattle.multiway_sweep.specs.Steps.{Reading, Arrays, reads, On, Sweeping, Holds}
 use Rattle.multiway_sweep.specs.Begins.{events-of, Begins}
-use Rattle.multiway_sweep.specs.Sweeps.{arrays-of}
-use Rattle.multiway_sweep.specs.Drained.{Answers, Drained, nothing, takes}
+use Rattle.multiway_sweep.specs.Sweeps.{arrays-of, Advances}
+use Rattle.multiway_sweep.specs.Drained.{Drained, nothing, takes}
 use Rattle.multiway_sweep.specs.declared.Step.{Step}
 use Rattle.multiway_sweep.specs.declared.Step.the-variants.{Start, End, Done}
 use Rattle.multiway_sweep.specs.declared.Sweep.{Sweep}
@@ -46,7 +46,7 @@ module _ {P : Type 0} (w : Width P) (c : Reading P) where
   first-taken a Done e rest h = let q : _≡_ {A = ℕ} 0 1 = cc in absurd (omega arith)
 
   -- whatever meets the contract of `next` drains a sweep: it takes as many events as are left, and then nothing
-  pub drainable : (next : Sweep → Advance) → ((s : Sweep) → Answers w c s (next s)) → (rest : List (Event ℤ)) (s : Sweep) → Sweeping w c (arrays-of s) (s .sizes) rest → Drained w c s rest
+  pub drainable : (next : Sweep → Advance) → ((s : Sweep) → Advances w c s (next s)) → (rest : List (Event ℤ)) (s : Sweep) → Sweeping w c (arrays-of s) (s .sizes) rest → Drained w c s rest
   drainable next answers [] s g = nothing (next s) (answers s) (none-taken (arrays-of (next s .sweep)) (next s .taken) (answers s [] g .0 .1))
   drainable next answers (e ∷ rest) s g =
       let a = answers s (e ∷ rest) g in
@@ -58,7 +58,7 @@ module _ {P : Type 0} (w : Width P) (c : Reading P) where
       takes (next s) (answers s) took (drainable next answers rest (next s .sweep) more))
 
   -- after n of all events one more is taken
-  pub goes-on : (all : List (Event ℤ)) (n : ℕ) (s : Sweep) (r : Advance) → Answers w c s r → On (λ x. Unit {0}) ⊥ (r .taken) → Sweeping w c (arrays-of s) (s .sizes) (drop n all) → (n < length all) × Sweeping w c (arrays-of (r .sweep)) (r .sweep .sizes) (drop (n + 1) all)
+  pub goes-on : (all : List (Event ℤ)) (n : ℕ) (s : Sweep) (r : Advance) → Advances w c s r → On (λ x. Unit {0}) ⊥ (r .taken) → Sweeping w c (arrays-of s) (s .sizes) (drop n all) → (n < length all) × Sweeping w c (arrays-of (r .sweep)) (r .sweep .sizes) (drop (n + 1) all)
   goes-on all n s r answers some g =
       let a = answers (drop n all) g in
       on-step w c (arrays-of (r .sweep)) (λ x. Unit {0}) (s .sizes) (r .taken) (a .0 .1) some

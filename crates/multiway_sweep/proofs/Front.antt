@@ -15,7 +15,7 @@ use Rattle.rules.specs.Piece.{column}
 use Rattle.rules.specs.Proving.Below.{nones}
 use Rattle.rules.specs.Sweep.{Event, starts, ends, list, put, sort, own, listed, events, All, In}
 use Rattle.rules.specs.Proving.Moments.{moment, Before, Sorted}
-use Rattle.multiway_sweep.specs.Front.{value-from, apply, run, Front, Next, By, NotBy}
+use Rattle.multiway_sweep.specs.Front.{value-from, apply, run, Front, Next}
 use Rattle.rules.proofs.At.{at-in, at-before, at-after, at-late, le-or-lt}
 use Rattle.rules.proofs.Sweep.{Later, InTurn, put-cases, all-map, all-append, all-right, all-in, all-sort, sorted-right, sort-in, own-list, own-from, listed-list, listed-in-turn, events-sorted}
 
@@ -222,24 +222,6 @@ module _ {A : Type 0} where
               List·getD-map (λ l. at l p) ls j []
               ∙ sym (own-at j p 0 n (getD ls j []) (wf-at n j ls wf))
               ∙ sym (front-entry j (2 * p + 1) g (all-map (λ e m q. omega arith) (f .passed) (f .low)) (all-map (λ e m q. m) left (from-next (2 * p + 1) left front-sorted k)))
-
-    -- the same by points: where the events that bear on c have passed, and no other, the lists have their column at c
-    pub passed-column : (c : ℕ) (passed left : List (Event A)) → passed ++ left ≡ events ls → All (By c) passed → All (NotBy c) left → column ls c ≡ run passed (nones ls)
-    passed-column c passed left q a b =
-        let high = all-map late left b in
-        front-column (record { passed = passed; whole = q; state = refl; low = all-map soon passed a; high = all-map (λ e h. omega arith) left high }) c (omega arith) (next left high)
-      where
-        soon : (e : Event A) → By c e → moment e ≤ 2 * c
-        soon (starts p i v) h = omega arith
-        soon (ends p i) h = omega arith
-
-        late : (e : Event A) → NotBy c e → 2 * c + 1 ≤ moment e
-        late (starts p i v) h = omega arith
-        late (ends p i) h = omega arith
-
-        next : (es : List (Event A)) → All (λ e. 2 * c + 1 ≤ moment e) es → Next (2 * c + 1) es
-        next [] h = tt
-        next (e ∷ es) h = h .0
 
     -- once all events have passed no list has anything
     pub front-last : {t : ℕ} {act : List (Option A)} → Front ls t [] act → act ≡ nones ls

@@ -91,15 +91,6 @@ module _ {A : Type 0} where
       let s = split e r 0 j j rs l (omega arith) h g (leads e j 0 rs (λ m k q. a m k (λ z. q (omega arith)))) in
       ap sort (s .with-it) ∙ sort-first e (s .pre) (s .post) (s .least) ∙ ap (λ z. e ∷ sort z) (sym (s .without))
 
-  lanes-keep : (e : Event A) (r : List (Event A)) (i m : ℕ) (rs : List (List (Event A))) → Lanes i rs → getD rs m [] ≡ e ∷ r → Lanes i (set rs m r)
-  lanes-keep e r i m [] l g = tt
-  lanes-keep e r i zero (x ∷ xs) l g = let mine : Lane i (e ∷ r) = rw g at (l .0) in (mine .2, l .1)
-  lanes-keep e r i (suc m) (x ∷ xs) l g = (l .0, lanes-keep e r (suc i) m xs (l .1) g)
-
-  -- lanes stay lanes
-  pub lanes-set : (e : Event A) (r : List (Event A)) (j : ℕ) (rs : List (List (Event A))) → Lanes 0 rs → getD rs j [] ≡ e ∷ r → Lanes 0 (set rs j r)
-  lanes-set e r j rs l g = lanes-keep e r 0 j rs l g
-
   pub own-lane : (k b n : ℕ) (l : List (Piece A)) → Within b n l → Lane k (own k l)
   own-lane k b n [] w = tt
   own-lane k b n (x ∷ xs) w =

@@ -1,5 +1,5 @@
 -- What is active at the frontier: events stand at a moment, those passed happened by then, and each list has the value of its active range. Assumes nothing.
-use Prim.Native.Nat.{ℕ, _+_, _≤_, _<_}
+use Prim.Native.Nat.{ℕ, _+_, _≤_}
 use mathlib.Core.Path.{_≡_}
 use mathlib.Core.Option.{Option, none, some}
 use mathlib.Core.List.{List, [], _∷_, _++_}
@@ -39,12 +39,3 @@ module _ {A : Type 0} where
   abbrev pub Next : ℕ → List (Event A) → Type 0
   Next t [] = Unit {0}
   Next t (e ∷ es) = t ≤ moment e
-
-  -- the event bears on the column of c, or does not yet
-  abbrev pub By : ℕ → Event A → Type 0
-  By c (starts p i v) = p ≤ c
-  By c (ends p i) = p < c
-
-  abbrev pub NotBy : ℕ → Event A → Type 0
-  NotBy c (starts p i v) = c < p
-  NotBy c (ends p i) = c ≤ p

@@ -111,3 +111,11 @@ module _ {P : Type 0} (w : Width P) (c : Reading P) where
   -- from the arrays a to the arrays b
   abbrev pub Stepped : Arrays → Arrays → List (rules.Event ℤ) → Step → Type 0
   Stepped a b rest s = Reaches a s × Holds b s rest
+
+  -- a sweep has come somewhere, whatever events are left
+  abbrev pub Underway : Arrays → Sizes → Type 0
+  Underway a z = (rest : List (rules.Event ℤ)) × Sweeping w c a z rest
+
+  -- from the arrays a to the arrays b, with heaps of some sizes before it, a step takes what comes next, whatever events are left
+  abbrev pub TakesNext : Arrays → Arrays → Sizes → Step → Type 0
+  TakesNext a b z s = (rest : List (rules.Event ℤ)) → Sweeping w c a z rest → Stepped a b rest s

@@ -14,15 +14,12 @@ use multiway_sweep::end_first;
 use multiway_sweep::sizes_after;
 use multiway_sweep::wide;
 ghost use Prim.Native.Nat.{_≤_};
-ghost use mathlib.Core.List.{List};
 ghost use mathlib.Core.Path.{_≡_};
-ghost use lib.IntN.{ℤ};
 ghost use lib.ListN.{length};
 ghost use Rattle.rules.specs.Lists.{instants, total};
-ghost use Rattle.rules.specs.Sweep as rules;
-ghost use Rattle.multiway_sweep.specs.Steps.{reading, read, arrays, arrays-before, arrays-after, Sweeping, Stepped};
-ghost use Rattle.multiway_sweep.specs.Sweeps.{arrays-of, Advanced};
-ghost use Rattle.multiway_sweep.specs.Begins.{Begins, Fillable, Filled};
+ghost use Rattle.multiway_sweep.specs.Steps.{reading, read, arrays, arrays-before, arrays-after, Underway, TakesNext};
+ghost use Rattle.multiway_sweep.specs.Sweeps.{arrays-of, Advances, NewSweep};
+ghost use Rattle.multiway_sweep.specs.Begins.{Fillable, Filled};
 
 // Lays the cursors of the lists that the counts tell, and the heap of their first starts, and answers the sizes of the heaps.
 pub fn fill(
@@ -67,14 +64,11 @@ pub fn step(
     end_lists: &mut [u8; 16],
     sizes: Sizes,
 ) -> Step
-    requires { let c = reading starts ends values in
-        let a = arrays cursors «start_keys» «start_lists» «end_keys» «end_lists» in
-        ⌜ ((rest : List (rules.Event ℤ)) × Sweeping instants c a sizes rest) ⌝ }
+    requires { ⌜ Underway instants (reading starts ends values) (arrays cursors «start_keys» «start_lists» «end_keys» «end_lists») sizes ⌝ }
     ensures { λ r.
-        let c = read starts ends values in
         let a = arrays-before cursors «start_keys» «start_lists» «end_keys» «end_lists» in
         let b = arrays-after cursors «start_keys» «start_lists» «end_keys» «end_lists» in
-        ⌜ ((rest : List (rules.Event ℤ)) → Sweeping instants c a sizes rest → Stepped instants c a b rest r) ⌝ }
+        ⌜ TakesNext instants (read starts ends values) a b sizes r ⌝ }
 {
     let mut left = sizes;
     if end_first(sizes, start_keys[0], end_keys[0]) {
@@ -110,7 +104,7 @@ pub fn step(
 // A sweep over the lists that the counts tell.
 pub fn new(starts: &[Point], counts: &[u32]) -> Sweep
     requires { ⌜ (length (now counts) ≤ 16) × (total (now counts) ≡ length (now starts)) ⌝ }
-    ensures { λ r. ⌜ Begins instants (now (starts .entry)) (now (counts .entry)) (arrays-of r) (r .sizes) ⌝ }
+    ensures { λ r. ⌜ NewSweep instants starts counts r ⌝ }
 {
     let mut cursors: [usize; 32] = [0; 32];
     let mut start_keys: [u64; 16] = [0; 16];
@@ -136,10 +130,8 @@ pub fn new(starts: &[Point], counts: &[u32]) -> Sweep
 
 // The next event of a sweep, and the sweep after it.
 pub fn next(starts: &[Point], ends: &[Point], values: &[i32], sweep: Sweep) -> Advance
-    requires { ⌜ ((rest : List (rules.Event ℤ)) × Sweeping instants (reading starts ends values) (arrays-of sweep) (sweep .sizes) rest) ⌝ }
-    ensures { λ r.
-        let c = read starts ends values in
-        ⌜ ((rest : List (rules.Event ℤ)) → Sweeping instants c (arrays-of sweep) (sweep .sizes) rest → Advanced instants c sweep rest r) ⌝ }
+    requires { ⌜ Underway instants (reading starts ends values) (arrays-of sweep) (sweep .sizes) ⌝ }
+    ensures { λ r. ⌜ Advances instants (read starts ends values) sweep r ⌝ }
 {
     let mut cursors = sweep.cursors;
     let mut start_keys = sweep.start_keys;

@@ -6,7 +6,6 @@ use multiway_sweep_seat::new;
 use multiway_sweep_seat::next;
 use rules::Judgement;
 use rules::Kind;
-ghost use Prim.Native.Nat.{_<_};
 ghost use Rattle.rules.specs.Lists.{seats, lent};
 ghost use Rattle.rules.specs.Refusals.{Formed};
 ghost use Rattle.rules.specs.declared.Kind.the-variants.{Listing};

@@ -76,7 +76,7 @@ step-spec =
     (λ c. search needs)
     (λ c. let d = due search in omega (arith, d .few))
     -- it has
-    (λ c κs. let a : tie.Start = search in let t : tie.After-wide2 = search in another-there (a .pre .1) (t .wide2 .ensures) (start-first (taking t)) (c .if3 .taken))
+    (λ c κs. let a : tie.Start = search in let t : tie.After-wide2 = search in omega (arith, another-there (a .pre .1) (t .wide2 .ensures) (start-first (taking t)) (c .if3 .taken)))
     (λ c κs. search needs)
     (λ c. let t : tie.After-wide2 = search in let v : tie.After-value = search in let p : tie.After-push = search in let k : tie.After-key-at2 = search in λ rest g. start-taken-more g (t .wide2 .ensures) (start-first (taking t)) (v .before .key-at .ensures .is) (back w32 _ (v .value .given)) _ _ _ _ (p .push .ensures) (k .key-at2 .ensures .is) (k .before .if3 .taken) (c .replace-top .ensures))
     -- it has none
