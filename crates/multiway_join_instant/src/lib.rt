@@ -122,7 +122,14 @@ fn pass(
         };
         sweep = at;
         last_end = LastEnd::At(range.end);
-        let ruling = rule_on(admission, combiner, counts.len(), &current, &present);
+        let ruling = rule_on(
+            admission,
+            combiner,
+            counts.len(),
+            at.active_count,
+            &current,
+            &present,
+        );
         if let Ruling::Value(value) = ruling {
             let next = Piece {
                 start: range.start,
@@ -151,7 +158,7 @@ fn of_none(
 {
     let current: [i32; 16] = [0; 16];
     let present: [bool; 16] = [false; 16];
-    let ruling = rule_on(admission, combiner, 0, &current, &present);
+    let ruling = rule_on(admission, combiner, 0, 0, &current, &present);
     let Ruling::Value(value) = ruling else {
         return Answer::Done(0);
     };

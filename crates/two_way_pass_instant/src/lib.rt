@@ -7,8 +7,6 @@ use two_way::LEFT;
 use two_way::NextPair;
 use two_way::Pair;
 use two_way::RIGHT;
-use two_way_instant::next_piece;
-use two_way_instant::side::begin;
 use two_way_pass::first_count;
 use two_way_pass::value_at;
 ghost use mathlib.Core.Path.{_≡_};

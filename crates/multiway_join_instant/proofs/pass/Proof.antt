@@ -12,7 +12,7 @@ use Rattle.join_sweep.specs.Stretches.{after, moment-of, Joining}
 use Rattle.join_sweep.proofs.Begins.{zeros, joining-first, finds-next, finds-none}
 use Rattle.multiway_join.specs.Pieces.{waiting}
 use Rattle.multiway_join.proofs.Walks.{Going, going-first, going-long, last-puttable, walked, turn-less, turn-silent, turn-apart, turn-puttable, turn-more}
-use Rattle.multiway_join.proofs.Joins.{lists-formed, lists-few, ruled-out, ruled-in, join, walkable, joined}
+use Rattle.multiway_join.proofs.Joins.{lists-formed, lists-few, lists-counted, ruled-out, ruled-in, join, walkable, joined}
 use Rattle.multiway_join_instant.proofs.pass.Statement.{statement}
 use Rattle.multiway_join_instant.proofs.pass.Tie as tie
 
@@ -103,7 +103,11 @@ pass-spec =
     let i = l .loop .inv in
     joined (entry l .pre) (walked (i .1) (finds-none instants _ _ _ _ _ (e .enum-told .given .1) (n .next-stretch .ensures _ (i .0))) (p .put .ensures)))
     -- what the join says of the stretch
-    (λ c κs. let f : Spanned = search in entry (turn (asked f)) .pre .formed .lists-few)
+    (λ c κs.
+    let f : Spanned = search in
+    let n = asked f in
+    let t = finds-next instants _ _ _ _ _ (f .stretch .given .1) (n .next-stretch .ensures _ (turn n .loop .inv .0)) in
+    lists-counted (entry (turn n) .pre .formed) (t .1 .counted))
     (λ c. search needs)
     -- it is admitted with a value: the piece is pushed to what is pending
     (λ c κs.
