@@ -21,7 +21,7 @@ use Rattle.many_way_rules.specs.Operations.{kind-of, rule-of, merged}
 use Rattle.many_way_rules.specs.Outcomes.{merging}
 use Rattle.many_way_rules.specs.declared.Operation.{Operation}
 use Rattle.many_way_rules.proofs.Condition3.{halves, merged-right, merged-same, merged-cut}
-use Rattle.multiway_join.proofs.Joins.{lists-formed}
+use Rattle.multiway_pass.proofs.Joins.{lists-formed}
 
 -- the first n places of the columns
 abbrev pub written : {P : Type 0} → ℕ → Merged P → Merged P

@@ -1,8 +1,3 @@
--- The laws of the many-way joins: Walks holds for any value, rule and columns, Joins is its instance, Calls is about two calls.
-pub mod Rulings
-pub mod Pieces
-pub mod Columns
-pub mod Walks
-pub mod Joins
+-- The laws of the many-way joins: from the form checker's judgement to the outcome, and about two calls.
 pub mod Outcomes
 pub mod Calls

@@ -30,9 +30,10 @@ use Rattle.many_way_rules.specs.Operations.{kind-of, rule-of, merged}
 use Rattle.many_way_rules.specs.Outcomes.{merging}
 use Rattle.many_way_rules.specs.declared.Operation.{Operation}
 use Rattle.many_way_rules.proofs.Room.{merged-of-none}
-use Rattle.multiway_join.specs.Passes.{lay-if, PutPieces, Joinable, of-none}
-use Rattle.multiway_join.proofs.Columns.{if-nothing, if-keeps, merged-takes}
-use Rattle.multiway_join.proofs.Joins.{lists-formed, nothing-there}
+use Rattle.multiway_pass.specs.Passes.{lay-if, PutPieces, Joinable}
+use Rattle.multiway_join.specs.Zero.{of-none}
+use Rattle.multiway_pass.proofs.Columns.{if-nothing, if-keeps, merged-takes}
+use Rattle.multiway_pass.proofs.Joins.{lists-formed, nothing-there}
 
 -- what the form checker passes, by another name of the kind that it was told
 pub formed-as : {P : Type 0} {w : Width P} {k k' : Kind} {l : Lent P} → k ≡ k' → Formed w k l → Formed w k' l

@@ -1,3 +1,2 @@
--- What the contracts of the many-way joins say. Assumes nothing.
-pub mod Pieces
-pub mod Passes
+-- What the contracts of the many-way joins say beyond the rules.
+pub mod Zero

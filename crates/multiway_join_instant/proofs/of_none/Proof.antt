@@ -6,7 +6,7 @@ use borrow.Author.Needs.{needs}
 use mir.Syntax.{w64}
 use Rattle.integer.proofs.Laws.{back}
 use Rattle.rules.specs.Lists.{instants}
-use Rattle.multiway_join.specs.Pieces.{ruling-of}
+use Rattle.multiway_pass.specs.Pieces.{ruling-of}
 use Rattle.multiway_join.proofs.Outcomes.{none-nothing, none-lacks, none-whole}
 use Rattle.multiway_join_instant.proofs.of_none.Statement.{statement}
 use Rattle.multiway_join_instant.proofs.of_none.Tie as tie

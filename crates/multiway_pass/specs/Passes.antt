@@ -2,14 +2,12 @@
 use Prim.Native.Nat.{ℕ, _+_, _≤_, _<_, _^_}
 use mathlib.Core.Path.{_≡_}
 use mathlib.Core.Bool.{Bool, true, cond}
-use mathlib.Core.List.{List, []}
+use mathlib.Core.List.{List}
 use lib.ListN.{length}
 use Rattle.rules.specs.Piece.{Piece, Within}
 use Rattle.rules.specs.Lists.{Width, Lent, lists}
-use Rattle.rules.specs.Answer.{Outcome, settle}
 use Rattle.rules.specs.Refusals.{Formed}
-use Rattle.rules.specs.Merged.{Merged, room, lay}
-use Rattle.rules.specs.declared.Judgement.the-variants.{Sound}
+use Rattle.rules.specs.Merged.{Merged, room}
 use Rattle.many_way_rules.specs.Operations.{kind-of, merged}
 use Rattle.many_way_rules.specs.declared.Operation.{Operation}
 
@@ -34,7 +32,3 @@ module _ {P : Type 0} (w : Width P) (o : Operation) where
     pub formed : Formed w (kind-of o) l
     pub lists-some : 0 < length (l .counts)
     pub roomy : write ≡ true → length (merged o (w .points) (lists w l)) ≤ room c
-
-  -- the outcome over zero lists
-  abbrev pub of-none : Merged P → Outcome (Merged P)
-  of-none c = let xs = merged o (w .points) [] in settle Sound (length xs) (room c) c (lay w 0 xs c)

@@ -1,10 +1,10 @@
--- `multiway_join::push_merged` meets its contract. Assumes nothing.
+-- `multiway_pass::push_merged` meets its contract. Assumes nothing.
 use borrow.Author.Needs.{needs}
 use mir.Syntax.{w64}
 use Rattle.integer.proofs.Laws.{back}
-use Rattle.multiway_join.proofs.Pieces.{ends-before, pushed-first, pushed-merged, pushed-after}
-use Rattle.multiway_join.proofs.push_merged.Statement.{statement}
-use Rattle.multiway_join.proofs.push_merged.Tie as tie
+use Rattle.multiway_pass.proofs.Pieces.{ends-before, pushed-first, pushed-merged, pushed-after}
+use Rattle.multiway_pass.proofs.push_merged.Statement.{statement}
+use Rattle.multiway_pass.proofs.push_merged.Tie as tie
 
 pub push-merged-spec : {M : Type 1} → statement M
 push-merged-spec =

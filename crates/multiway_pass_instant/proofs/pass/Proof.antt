@@ -1,31 +1,31 @@
--- `multiway_join_seat::pass` meets its contract: the pieces done and the one pending say what the rule says up to the last stretch. Assumes nothing.
+-- `multiway_pass_instant::pass` meets its contract: the pieces done and the one pending say what the rule says up to the last stretch. Assumes nothing.
 use Prim.Native.Nat.{_-_}
 use mathlib.Core.Path.{refl, _∙_}
 use borrow.Author.Needs.{needs}
 use mir.Syntax.{w64}
 use Rattle.integer.proofs.Laws.{back}
-use Rattle.rules.specs.Lists.{Lent, seats, lists}
+use Rattle.rules.specs.Lists.{Lent, instants, lists}
 use Rattle.rules.specs.Merged.{Merged}
 use Rattle.many_way_rules.specs.declared.Operation.the-variants.{Join}
 use Rattle.multiway_sweep.specs.Steps.{reads}
 use Rattle.join_sweep.specs.Stretches.{after, moment-of, Joining}
 use Rattle.join_sweep.proofs.Begins.{zeros, joining-first, finds-next, finds-none}
-use Rattle.multiway_join.specs.Pieces.{waiting}
-use Rattle.multiway_join.proofs.Walks.{Going, going-first, going-long, last-puttable, walked, turn-less, turn-silent, turn-apart, turn-puttable, turn-more}
-use Rattle.multiway_join.proofs.Joins.{lists-formed, lists-few, lists-counted, ruled-out, ruled-in, join, walkable, joined}
-use Rattle.multiway_join_seat.proofs.pass.Statement.{statement}
-use Rattle.multiway_join_seat.proofs.pass.Tie as tie
+use Rattle.multiway_pass.specs.Pieces.{waiting}
+use Rattle.multiway_pass.proofs.Walks.{Going, going-first, going-long, last-puttable, walked, turn-less, turn-silent, turn-apart, turn-puttable, turn-more}
+use Rattle.multiway_pass.proofs.Joins.{lists-formed, lists-few, lists-counted, ruled-out, ruled-in, join, walkable, joined}
+use Rattle.multiway_pass_instant.proofs.pass.Statement.{statement}
+use Rattle.multiway_pass_instant.proofs.pass.Tie as tie
 
 abbrev Inv-loop : tie.InvT-loop
 Inv-loop admission combiner starts ends values counts write out-start₀ out-end₀ out-value₀ cursors₀ start-keys₀ start-lists₀ end-keys₀ end-lists₀ current₀ present₀ sweep₀ last-end₀ pending₀ count₀ out-start out-end out-value cursors start-keys start-lists end-keys end-lists current present sweep last-end pending count =
     let l : Lent _ = record { starts = starts; ends = ends; values = values; counts = counts } in
     let c : Merged _ = record { start = out-start₀; end = out-end₀; value = out-value₀ } in
-    Joining seats (reads l) (lists seats l) (record { cursors = cursors; start-keys = start-keys; start-lists = start-lists; end-keys = end-keys; end-lists = end-lists }) (record { current = current; present = present }) sweep (moment-of last-end)
-    × Going (join seats (Join admission combiner) l write c) (record { start = out-start; end = out-end; value = out-value }) (waiting pending) count (after last-end)
+    Joining instants (reads l) (lists instants l) (record { cursors = cursors; start-keys = start-keys; start-lists = start-lists; end-keys = end-keys; end-lists = end-lists }) (record { current = current; present = present }) sweep (moment-of last-end)
+    × Going (join instants (Join admission combiner) l write c) (record { start = out-start; end = out-end; value = out-value }) (waiting pending) count (after last-end)
 
 abbrev μ-loop : tie.MeasureT-loop
 μ-loop admission combiner starts ends values counts write out-start₀ out-end₀ out-value₀ cursors₀ start-keys₀ start-lists₀ end-keys₀ end-lists₀ current₀ present₀ sweep₀ last-end₀ pending₀ count₀ out-start out-end out-value cursors start-keys start-lists end-keys end-lists current present sweep last-end pending count =
-    seats .points - after last-end
+    instants .points - after last-end
 
 -- the places that the answers cite: the entry, a turn, its stretch, what is said of it, and the piece that is pushed
 abbrev Start : Type 0
@@ -89,7 +89,7 @@ pass-spec =
     let e : tie.After-enum-told Inv-loop μ-loop = search in
     let n : Asked = search in
     let i = turn n .loop .inv in
-    last-puttable (i .1) (finds-none seats _ _ _ _ _ (e .enum-told .given .1) (n .next-stretch .ensures _ (i .0))))
+    last-puttable (i .1) (finds-none instants _ _ _ _ _ (e .enum-told .given .1) (n .next-stretch .ensures _ (i .0))))
     -- every column keeps its length
     (λ c. let p : tie.After-put Inv-loop μ-loop = search in let n : Asked = search in p .put .kept .1 .1 .1 .0 ∙ going-long (turn n .loop .inv .1) .0)
     (λ c. let p : tie.After-put Inv-loop μ-loop = search in let n : Asked = search in p .put .kept .1 .1 .1 .1 .0 ∙ going-long (turn n .loop .inv .1) .1 .0)
@@ -101,12 +101,12 @@ pass-spec =
     let n : Asked = search in
     let l = turn n in
     let i = l .loop .inv in
-    joined (entry l .pre) (walked (i .1) (finds-none seats _ _ _ _ _ (e .enum-told .given .1) (n .next-stretch .ensures _ (i .0))) (p .put .ensures)))
+    joined (entry l .pre) (walked (i .1) (finds-none instants _ _ _ _ _ (e .enum-told .given .1) (n .next-stretch .ensures _ (i .0))) (p .put .ensures)))
     -- what the join says of the stretch
     (λ c κs.
     let f : Spanned = search in
     let n = asked f in
-    let t = finds-next seats _ _ _ _ _ (f .stretch .given .1) (n .next-stretch .ensures _ (turn n .loop .inv .0)) in
+    let t = finds-next instants _ _ _ _ _ (f .stretch .given .1) (n .next-stretch .ensures _ (turn n .loop .inv .0)) in
     lists-counted (entry (turn n) .pre .formed) (t .1 .counted))
     (λ c. search needs)
     -- it is admitted with a value: the piece is pushed to what is pending
@@ -115,7 +115,7 @@ pass-spec =
     let f = spanned (ruled k) in
     let n = asked f in
     let i = turn n .loop .inv in
-    turn-apart (i .1) (finds-next seats _ _ _ _ _ (f .stretch .given .1) (n .next-stretch .ensures _ (i .0)) .0))
+    turn-apart (i .1) (finds-next instants _ _ _ _ _ (f .stretch .given .1) (n .next-stretch .ensures _ (i .0)) .0))
     -- what is done is put
     (λ c κs.
     let u : Pushed = search in
@@ -125,7 +125,7 @@ pass-spec =
     let n = asked f in
     let l = turn n in
     let i = l .loop .inv in
-    let t = finds-next seats _ _ _ _ _ (f .stretch .given .1) (n .next-stretch .ensures _ (i .0)) in
+    let t = finds-next instants _ _ _ _ _ (f .stretch .given .1) (n .next-stretch .ensures _ (i .0)) in
     turn-puttable (i .1) (t .0) (u .push-merged .ensures) refl refl (ruled-in (entry l .pre) _ (t .0) _ (r .rule-on .ensures) (k .before .ruling .given .1) (back w64 _ (k .known-told2 .given .0 .1))))
     -- fewer points are left
     (λ c.
@@ -133,7 +133,7 @@ pass-spec =
     let f = spanned (ruled k) in
     let n = asked f in
     let i = turn n .loop .inv in
-    turn-less (i .1) (finds-next seats _ _ _ _ _ (f .stretch .given .1) (n .next-stretch .ensures _ (i .0)) .0))
+    turn-less (i .1) (finds-next instants _ _ _ _ _ (f .stretch .given .1) (n .next-stretch .ensures _ (i .0)) .0))
     -- the walk goes on
     (λ c.
     let p : tie.After-put2 Inv-loop μ-loop = search in
@@ -144,7 +144,7 @@ pass-spec =
     let n = asked f in
     let l = turn n in
     let i = l .loop .inv in
-    let t = finds-next seats _ _ _ _ _ (f .stretch .given .1) (n .next-stretch .ensures _ (i .0)) in
+    let t = finds-next instants _ _ _ _ _ (f .stretch .given .1) (n .next-stretch .ensures _ (i .0)) in
     (t .1, turn-more (i .1) (t .0) (u .push-merged .ensures) refl refl (ruled-in (entry l .pre) _ (t .0) _ (r .rule-on .ensures) (k .before .ruling .given .1) (back w64 _ (k .known-told2 .given .0 .1))) (p .put2 .ensures)))
     -- it is not admitted: fewer points are left, and the walk goes on
     (λ c. search needs)
@@ -152,12 +152,12 @@ pass-spec =
     let f : Spanned = search in
     let n = asked f in
     let i = turn n .loop .inv in
-    turn-less (i .1) (finds-next seats _ _ _ _ _ (f .stretch .given .1) (n .next-stretch .ensures _ (i .0)) .0))
+    turn-less (i .1) (finds-next instants _ _ _ _ _ (f .stretch .given .1) (n .next-stretch .ensures _ (i .0)) .0))
     (λ c.
     let r : Ruled = search in
     let f = spanned r in
     let n = asked f in
     let l = turn n in
     let i = l .loop .inv in
-    let t = finds-next seats _ _ _ _ _ (f .stretch .given .1) (n .next-stretch .ensures _ (i .0)) in
+    let t = finds-next instants _ _ _ _ _ (f .stretch .given .1) (n .next-stretch .ensures _ (i .0)) in
     (t .1, turn-silent (i .1) (t .0) (ruled-out (entry l .pre) _ (t .0) _ (r .rule-on .ensures) (c .enum-told2 .given .1)))))

@@ -1,8 +1,8 @@
--- `multiway_join::touches` meets its contract. Assumes nothing.
+-- `multiway_pass::touches` meets its contract. Assumes nothing.
 use borrow.Author.Needs.{needs}
-use Rattle.multiway_join.proofs.Pieces.{touches-is}
-use Rattle.multiway_join.proofs.touches.Statement.{statement}
-use Rattle.multiway_join.proofs.touches.Tie as tie
+use Rattle.multiway_pass.proofs.Pieces.{touches-is}
+use Rattle.multiway_pass.proofs.touches.Statement.{statement}
+use Rattle.multiway_pass.proofs.touches.Tie as tie
 
 pub touches-spec : {M : Type 1} → statement M
 touches-spec =

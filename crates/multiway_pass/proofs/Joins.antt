@@ -22,12 +22,12 @@ use Rattle.many_way_rules.specs.declared.Operation.{Operation}
 use Rattle.many_way_rules.proofs.Room.{rule-nones, merged-enough}
 use Rattle.slots.specs.Slots.{Slots, active, Counted}
 use Rattle.slots.specs.Stretch.{Stretch}
-use Rattle.multiway_join.specs.Pieces.{ruling-of}
-use Rattle.multiway_join.specs.Passes.{PutPieces, Joinable}
-use Rattle.multiway_join.specs.declared.Ruling.{Ruling}
-use Rattle.multiway_join.specs.declared.Ruling.the-variants.{Nothing as NotAdmitted, Value}
-use Rattle.multiway_join.proofs.Columns.{merged-takes}
-use Rattle.multiway_join.proofs.Walks.{Walk, pieces, Walkable}
+use Rattle.multiway_pass.specs.Pieces.{ruling-of}
+use Rattle.multiway_pass.specs.Passes.{PutPieces, Joinable}
+use Rattle.multiway_pass.specs.declared.Ruling.{Ruling}
+use Rattle.multiway_pass.specs.declared.Ruling.the-variants.{Nothing as NotAdmitted, Value}
+use Rattle.multiway_pass.proofs.Columns.{merged-takes}
+use Rattle.multiway_pass.proofs.Walks.{Walk, pieces, Walkable}
 
 -- lists that the form checker passed
 module _ {P : Type 0} {w : Width P} {k : Kind} {l : Lent P} (f : Formed w k l) where

@@ -6,11 +6,11 @@ use mathlib.Core.List.{List, [], _∷_, _++_}
 use lib.IntN.{ℤ}
 use Rattle.rules.specs.Piece as rules
 use Rattle.rules.specs.Runs.{push}
-use Rattle.multiway_join.specs.declared.Ruling.{Ruling}
-use Rattle.multiway_join.specs.declared.Ruling.the-variants.{Nothing as NotAdmitted, Value}
-use Rattle.multiway_join.specs.declared.Piece.{Piece}
-use Rattle.multiway_join.specs.declared.Pending.{Pending}
-use Rattle.multiway_join.specs.declared.Pending.the-variants.{Nothing, One}
+use Rattle.multiway_pass.specs.declared.Ruling.{Ruling}
+use Rattle.multiway_pass.specs.declared.Ruling.the-variants.{Nothing as NotAdmitted, Value}
+use Rattle.multiway_pass.specs.declared.Piece.{Piece}
+use Rattle.multiway_pass.specs.declared.Pending.{Pending}
+use Rattle.multiway_pass.specs.declared.Pending.the-variants.{Nothing, One}
 
 abbrev pub ruling-of : Ruling → Option ℤ
 ruling-of NotAdmitted = none

@@ -15,11 +15,11 @@ use Rattle.rules.specs.Answer.{least, laid}
 use Rattle.rules.specs.Merged.{Merged, lengths, room, lay}
 use Rattle.rules.specs.Proving.Long.{Long}
 use Rattle.rules.proofs.Fronts.{laid-nothing, laid-long}
-use Rattle.multiway_join.specs.Pieces.{piece-of, waiting}
-use Rattle.multiway_join.specs.Passes.{Puttable, lay-if, PutPieces}
-use Rattle.multiway_join.specs.declared.Piece.{Piece}
-use Rattle.multiway_join.specs.declared.Pending.{Pending}
-use Rattle.multiway_join.specs.declared.Pending.the-variants.{Nothing, One}
+use Rattle.multiway_pass.specs.Pieces.{piece-of, waiting}
+use Rattle.multiway_pass.specs.Passes.{Puttable, lay-if, PutPieces}
+use Rattle.multiway_pass.specs.declared.Piece.{Piece}
+use Rattle.multiway_pass.specs.declared.Pending.{Pending}
+use Rattle.multiway_pass.specs.declared.Pending.the-variants.{Nothing, One}
 
 -- what columns C with pieces of value B have to do with each other: lay n xs c is c with xs from place n on
 pub record Takes {B C : Type 0} (lengths : C → List ℕ) (lay : ℕ → List (PieceOf B) → C → C) : Type 0 where

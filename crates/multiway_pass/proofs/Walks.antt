@@ -19,9 +19,9 @@ use Rattle.rules.proofs.Fronts.{same-room}
 use Rattle.rules.proofs.Push.{push-past, skip-below}
 use Rattle.rules.proofs.Runs.{extend-below, nothing-below, runs-only}
 use Rattle.slots.specs.Stretch.{Stretch, NoStretch}
-use Rattle.multiway_join.specs.Pieces.{PushedOn}
-use Rattle.multiway_join.specs.Passes.{Puttable, lay-if, PutPieces}
-use Rattle.multiway_join.proofs.Columns.{Takes, if-nothing, if-append, if-keeps}
+use Rattle.multiway_pass.specs.Pieces.{PushedOn}
+use Rattle.multiway_pass.specs.Passes.{Puttable, lay-if, PutPieces}
+use Rattle.multiway_pass.proofs.Columns.{Takes, if-nothing, if-append, if-keeps}
 
 module _ {B : Type 0} (same : B → B → Bool) where
   -- the last piece alone takes part in a push

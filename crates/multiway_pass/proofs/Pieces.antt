@@ -15,10 +15,10 @@ use Rattle.rules.specs.Piece.{Within}
 use Rattle.rules.specs.Runs.{touch}
 use Rattle.rules.specs.Same.{eqℤ}
 use Rattle.rules.proofs.Same.{decides-ℤ}
-use Rattle.multiway_join.specs.Pieces.{piece-of, waiting, PushedOn}
-use Rattle.multiway_join.specs.declared.Piece.{Piece}
-use Rattle.multiway_join.specs.declared.Pending.{Pending}
-use Rattle.multiway_join.specs.declared.Pending.the-variants.{Nothing, One}
+use Rattle.multiway_pass.specs.Pieces.{piece-of, waiting, PushedOn}
+use Rattle.multiway_pass.specs.declared.Piece.{Piece}
+use Rattle.multiway_pass.specs.declared.Pending.{Pending}
+use Rattle.multiway_pass.specs.declared.Pending.the-variants.{Nothing, One}
 
 -- numbers that fit are equal exactly when their bits are
 same-bits : (a b : ℤ) → mag a < 2 ^ 63 → mag b < 2 ^ 63 → eqb (ofZ w64 a) (ofZ w64 b) ≡ eqℤ a b

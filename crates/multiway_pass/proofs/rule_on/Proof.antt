@@ -1,4 +1,4 @@
--- `multiway_join::rule_on` meets its contract. Assumes nothing.
+-- `multiway_pass::rule_on` meets its contract. Assumes nothing.
 use mathlib.Core.Path.{sym, ap, _∙_}
 use mathlib.Core.Option.{some}
 use borrow.Author.Needs.{needs}
@@ -7,9 +7,9 @@ use mir.Syntax.{w64}
 use Rattle.integer.proofs.Laws.{back}
 use Rattle.combine.specs.Figures.{answer}
 use Rattle.slots.specs.Slots.{Slots}
-use Rattle.multiway_join.proofs.Rulings.{not-admitted, admitted-with}
-use Rattle.multiway_join.proofs.rule_on.Statement.{statement}
-use Rattle.multiway_join.proofs.rule_on.Tie as tie
+use Rattle.multiway_pass.proofs.Rulings.{not-admitted, admitted-with}
+use Rattle.multiway_pass.proofs.rule_on.Statement.{statement}
+use Rattle.multiway_pass.proofs.rule_on.Tie as tie
 
 abbrev places : tie.Start → Slots
 places a = record { current = a .args .current .now; present = a .args .present .now }

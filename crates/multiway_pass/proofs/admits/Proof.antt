@@ -1,10 +1,10 @@
--- `multiway_join::admits` meets its contract: each admission by its case. Assumes nothing.
+-- `multiway_pass::admits` meets its contract: each admission by its case. Assumes nothing.
 use mathlib.Core.Path.{_∙_}
 use borrow.Author.Needs.{needs}
 use Rattle.many_way_rules.specs.declared.Admission.the-variants.{Every, Any, Odd}
-use Rattle.multiway_join.proofs.Rulings.{admits-number}
-use Rattle.multiway_join.proofs.admits.Statement.{statement}
-use Rattle.multiway_join.proofs.admits.Tie as tie
+use Rattle.multiway_pass.proofs.Rulings.{admits-number}
+use Rattle.multiway_pass.proofs.admits.Statement.{statement}
+use Rattle.multiway_pass.proofs.admits.Tie as tie
 
 pub admits-spec : {M : Type 1} → statement M
 admits-spec =
