@@ -20,7 +20,8 @@ use Rattle.multiway_sweep.specs.Steps.{Arrays, reads, sizes-after, On, Sweeping
 use Rattle.multiway_sweep.specs.Begins.{events-of, Fills}
 use Rattle.multiway_sweep.specs.declared.Sizes.{Sizes}
 use Rattle.multiway_sweep.specs.declared.Step.{Step}
-use Rattle.multiway_sweep.proofs.Begun.{lists-formed, events-few, begun}
+use Rattle.rules.proofs.Refusals.{lists-formed}
+use Rattle.multiway_sweep.proofs.Begun.{events-few, begun}
 use Rattle.multiway_sweep.proofs.Sorts.{on-step}
 use Rattle.event_listing.specs.Listing.{RowOf, Writable, PutRow, Listable, Wrote}
 use Rattle.event_listing.specs.declared.Row.{Row}

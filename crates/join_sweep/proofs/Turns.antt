@@ -6,13 +6,12 @@ use mathlib.Core.Bool.{true, false}
 use mathlib.Core.Option.{none, some}
 use mathlib.Core.List.{List, _∷_}
 use native.Mathlib.Omega.{arith}
-use lib.IntN.{ℤ, pos}
-use lib.ListN.{length, getD, set, length-set}
+use lib.IntN.{ℤ}
+use lib.ListN.{length, set, length-set}
 use Rattle.rules.specs.Piece.{Range, present}
 use Rattle.rules.specs.Lists.{Width, Lent, lists}
 use Rattle.rules.specs.Refusals.{Formed}
 use Rattle.rules.specs.declared.Kind.{Kind}
-use Rattle.rules.proofs.Faults.{formed-values}
 use Rattle.rules.specs.Sweep as rules
 use Rattle.rules.specs.Sweep.{events}
 use Rattle.rules.specs.Proving.Moments.{moment}
@@ -23,6 +22,7 @@ use Rattle.multiway_sweep.specs.declared.Range.{Range as Span}
 use Rattle.multiway_sweep.specs.declared.Sizes.{Sizes}
 use Rattle.multiway_sweep.specs.declared.Step.{Step}
 use Rattle.multiway_sweep.specs.declared.Step.the-variants.{Start, End, Done}
+use Rattle.multiway_sweep.proofs.Begun.{begun}
 use Rattle.multiway_sweep.proofs.Front.{front-take, front-move, front-list, front-starts, front-ends}
 use Rattle.slots.specs.Slots.{Slots, active}
 use Rattle.join_sweep.specs.Stretches.{after, moment-of, StartsAt, EndsAt, EndsWith, StartsWith, Busy, Blank, Ready, Joining, Opened}
@@ -49,9 +49,7 @@ stepped-ready {rest = rest} s st = record { holds = st rest s .1 }
 
 -- a sweep whose cursors are laid stands before all events of lists that the form checker passed
 pub formed-sweeps : {P : Type 0} (w : Width P) {k : Kind} {l : Lent P} → Formed w k l → {a : Arrays} → Blank a → {cursors start-keys start-lists : List ℕ} {z : Sizes} → Fills w (l .starts) (l .counts) cursors start-keys start-lists z → Sweeping w (reads l) (record { cursors = cursors; start-keys = start-keys; start-lists = start-lists; end-keys = a .end-keys; end-lists = a .end-lists }) z (events (lists w l))
-formed-sweeps w {l = l} f b g =
-    let v = f .agree .values-long in
-    g _ _ (b .ends-whole) (l .ends) (l .values) (sym v) (f .agree .ends-long ∙ sym v) (formed-values _ _ (λ i. i) (λ i. getD (l .values) i (pos 0)) _ 0 (l .counts) (f .formed))
+formed-sweeps w f b g = begun f (g _ _ (b .ends-whole))
 
 module _ {P : Type 0} {w : Width P} {c : Reading P} {ls : List (List Range)} {a : Arrays} {s : Slots} {j : JoinSweep} {t : ℕ} (g : Joining w c ls a s j t) where
   later-left : (u : ℕ) → Later u (j .held) → Due u (g .left)

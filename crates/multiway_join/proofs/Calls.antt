@@ -16,12 +16,11 @@ use Rattle.rules.specs.declared.Answer.the-variants.{Done}
 use Rattle.rules.specs.declared.Judgement.{Judgement}
 use Rattle.rules.specs.declared.Judgement.the-variants.{Sound, Refused}
 use Rattle.rules.proofs.At.{within-le}
-use Rattle.rules.proofs.Refusals.{given, done-writes, refused-early, sound-formed}
+use Rattle.rules.proofs.Refusals.{given, done-writes, refused-early, sound-formed, lists-formed}
 use Rattle.many_way_rules.specs.Operations.{kind-of, rule-of, merged}
 use Rattle.many_way_rules.specs.Outcomes.{merging}
 use Rattle.many_way_rules.specs.declared.Operation.{Operation}
 use Rattle.many_way_rules.proofs.Condition3.{halves, merged-right, merged-same, merged-cut}
-use Rattle.multiway_pass.proofs.Joins.{lists-formed}
 
 -- the first n places of the columns
 abbrev pub written : {P : Type 0} → ℕ → Merged P → Merged P

@@ -23,7 +23,7 @@ use Rattle.rules.specs.declared.Judgement.the-variants.{Refused}
 use Rattle.rules.specs.declared.Kind.{Kind}
 use Rattle.rules.proofs.Columns.{lists-length, lists-size}
 use Rattle.rules.proofs.Passes.{Turn, settled-done, settled-not, turn-again}
-use Rattle.rules.proofs.Refusals.{formed-sound}
+use Rattle.rules.proofs.Refusals.{formed-sound, lists-formed}
 use Rattle.rules.proofs.Room.{runs-room}
 use Rattle.rules.proofs.Same.{decides-ℤ}
 use Rattle.many_way_rules.specs.Operations.{kind-of, rule-of, merged}
@@ -33,7 +33,7 @@ use Rattle.many_way_rules.proofs.Room.{merged-of-none}
 use Rattle.multiway_pass.specs.Passes.{lay-if, PutPieces, Joinable}
 use Rattle.multiway_join.specs.Zero.{of-none}
 use Rattle.multiway_pass.proofs.Columns.{if-nothing, if-keeps, merged-takes}
-use Rattle.multiway_pass.proofs.Joins.{lists-formed, nothing-there}
+use Rattle.multiway_pass.proofs.Joins.{nothing-there}
 
 -- what the form checker passes, by another name of the kind that it was told
 pub formed-as : {P : Type 0} {w : Width P} {k k' : Kind} {l : Lent P} → k ≡ k' → Formed w k l → Formed w k' l

@@ -5,17 +5,17 @@ use mathlib.Core.Bool.{Bool}
 use mathlib.Core.Option.{none, some}
 use mathlib.Core.List.{List, [], _∷_}
 use native.Mathlib.Omega.{arith}
-use lib.IntN.{ℤ, pos}
-use lib.ListN.{length, getD}
-use Rattle.rules.specs.Piece.{Range, AllWellFormed}
-use Rattle.rules.specs.Lists.{Width, Lent, keys, lists}
+use lib.IntN.{ℤ}
+use lib.ListN.{length}
+use Rattle.rules.specs.Piece.{Range}
+use Rattle.rules.specs.Lists.{Width, Lent, lists}
 use Rattle.rules.specs.Refusals.{Formed}
 use Rattle.rules.specs.Same.{eqℤ}
 use Rattle.rules.specs.Merged.{Merged, lengths, lay}
 use Rattle.rules.specs.Proving.Below.{nones}
 use Rattle.rules.specs.declared.Kind.{Kind}
 use Rattle.rules.proofs.Columns.{lists-length, lists-size}
-use Rattle.rules.proofs.Faults.{formed-values}
+use Rattle.rules.proofs.Refusals.{lists-formed}
 use Rattle.rules.proofs.Same.{decides-ℤ}
 use Rattle.many_way_rules.specs.Operations.{rule-of, merged}
 use Rattle.many_way_rules.specs.declared.Operation.{Operation}
@@ -31,9 +31,6 @@ use Rattle.multiway_pass.proofs.Walks.{Walk, pieces, Walkable}
 
 -- lists that the form checker passed
 module _ {P : Type 0} {w : Width P} {k : Kind} {l : Lent P} (f : Formed w k l) where
-  pub lists-formed : AllWellFormed (w .points) (lists w l)
-  lists-formed = formed-values (keys w (l .starts)) (keys w (l .ends)) (λ i. i) (λ i. getD (l .values) i (pos 0)) (w .points) 0 (l .counts) (f .formed)
-
   pub lists-few : length (lists w l) ≤ 16
   lists-few = omega (arith, lists-length w l, f .lists-few)
 

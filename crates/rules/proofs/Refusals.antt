@@ -6,10 +6,12 @@ use mathlib.Core.Bool.{Bool, true, false, cond, not-eq-not, false≢true}
 use mathlib.Core.List.{[], _∷_}
 use native.Mathlib.Omega.{arith}
 use native.Mathlib.Nat.{sub-zero, eq-or-lt-of-le, le-of-suc-le-suc}
+use lib.IntN.{pos}
 use lib.ListN.{length, getD}
 use borrow.Author.Tests.{le-ltb, le-leb, lt-leb}
 use Rattle.rules.proofs.At.{le-or-lt}
-use Rattle.rules.specs.Lists.{Width, Lent, keys, tracks}
+use Rattle.rules.specs.Piece.{AllWellFormed}
+use Rattle.rules.specs.Lists.{Width, Lent, keys, lists, tracks}
 use Rattle.rules.specs.Answer.{code-of, refuse, judge-lists, two-way, unknown-combiner, agree, judge, Outcome, leaves, settle}
 use Rattle.rules.specs.Refusals.{turn, Agree, Formed, IsBackward, IsOverlap, FirstFault, Due, Given}
 use Rattle.rules.specs.declared.Answer.{Answer}
@@ -18,7 +20,7 @@ use Rattle.rules.specs.declared.Judgement.{Judgement}
 use Rattle.rules.specs.declared.Judgement.the-variants.{Sound, Refused}
 use Rattle.rules.specs.declared.Kind.{Kind}
 use Rattle.rules.specs.declared.Kind.the-variants.{Listing, TwoWay, Join, Selection}
-use Rattle.rules.proofs.Faults.{Tells, tells-true, tells-lt, tells-le, tells-eq, tells-not, tells-both, tells-as, tells-holds, tells-not-holds, Names, backward, overlap, names-fault, Fault, Finds, sound, refused, fault-only, finds-lists, not-refused, all-clear, all-formed}
+use Rattle.rules.proofs.Faults.{Tells, tells-true, tells-lt, tells-le, tells-eq, tells-not, tells-both, tells-as, tells-holds, tells-not-holds, Names, backward, overlap, names-fault, Fault, Finds, sound, refused, fault-only, finds-lists, not-refused, all-clear, formed-values, all-formed}
 
 module _ {C : Type 0} (needed room : ℕ) (before after : C) where
   abbrev choice : Bool → Outcome C
@@ -233,6 +235,10 @@ unknown-exactly TwoWay = told-apart unknown-combiner TwoWay (Join false) refl re
 unknown-exactly (Join true) = told-apart unknown-combiner (Join true) (Join false) refl refl
 unknown-exactly (Join false) = (λ q. refl, λ q. refl)
 unknown-exactly Selection = told-apart unknown-combiner Selection (Join false) refl refl
+
+-- lists that the form checker passed are well formed with their values too
+pub lists-formed : {P : Type 0} {w : Width P} {k : Kind} {l : Lent P} → Formed w k l → AllWellFormed (w .points) (lists w l)
+lists-formed {w = w} {l = l} f = formed-values (keys w (l .starts)) (keys w (l .ends)) (λ i. i) (λ i. getD (l .values) i (pos 0)) (w .points) 0 (l .counts) (f .formed)
 
 -- two answers that conform to one outcome are equal
 pub determined : {C : Type 0} (o o' e : Outcome C) → o ≡ e → o' ≡ e → (o .answer ≡ o' .answer) × (o .columns ≡ o' .columns)
