@@ -1,0 +1,102 @@
+-- Laws of sets of lists: how many are in them, and the lists that have something. Assumes nothing.
+use Prim.Native.Nat.{ℕ, zero, suc, _+_, _%_, _<_, _≤_}
+use mathlib.Core.Path.{_≡_, refl, sym, ap, _∙_}
+use mathlib.Core.Bool.{Bool, true, false, not}
+use mathlib.Core.Option.{Option, none, some}
+use mathlib.Core.List.{List, [], _∷_}
+use native.Mathlib.Omega.{arith}
+use lib.Dec.{eqb}
+use lib.ListN.{length, getD, set}
+use lib.Seq.{getD-set-same, getD-set-other}
+use borrow.Author.Tests.{eqb-true, eqb-false, eq-eqb, ne-eqb}
+use Rattle.rules.specs.Piece.{there, present}
+use Rattle.heap.proofs.Laws.{by-eq}
+use Rattle.active_lists.specs.Active.{Set, nobody, but, has, bit, among, number, is-odd, Alike}
+
+module _ (f : Set) (list : ℕ) (b : Bool) where
+  pub but-here : but f list b list ≡ b
+  but-here = rw (eq-eqb list list refl)
+
+  pub but-other : (i : ℕ) → (i ≡ list → ⊥) → but f list b i ≡ f i
+  but-other i ne = rw (ne-eqb i list ne)
+
+-- the number is that of the lists in the set
+among-same : (f g : Set) (n : ℕ) → ((i : ℕ) → i < n → f i ≡ g i) → among n f ≡ among n g
+unfolding among
+among-same f g zero h = refl
+among-same f g (suc n) h = omega (arith, among-same f g n (λ i l. h i (omega arith)), ap bit (h n (omega arith)))
+
+pub number-same : (f g : Set) → Alike f g → number f ≡ number g
+number-same f g h = among-same f g 16 h
+
+among-none : (n : ℕ) → among n nobody ≡ 0
+unfolding among
+among-none zero = refl
+among-none (suc n) = omega (arith, among-none n)
+
+pub number-none : number nobody ≡ 0
+number-none = among-none 16
+
+bit-upto : (b : Bool) → bit b ≤ 1
+bit-upto true = omega arith
+bit-upto false = omega arith
+
+among-upto : (f : Set) (n : ℕ) → among n f ≤ n
+unfolding among
+among-upto f zero = omega arith
+among-upto f (suc n) = omega (arith, among-upto f n, bit-upto (f n))
+
+pub number-upto : (f : Set) → number f ≤ 16
+number-upto f = among-upto f 16
+
+-- the last bit of a number says whether it is odd
+pub odd-said : (n : ℕ) → eqb (n % 2) 1 ≡ is-odd n
+unfolding is-odd
+odd-said zero = refl
+odd-said (suc n) = go (is-odd n) (odd-said n)
+  where
+    go : (r : Bool) → eqb (n % 2) 1 ≡ r → eqb (suc n % 2) 1 ≡ not r
+    go true e = ne-eqb (suc n % 2) 1 (λ q. omega (arith, eqb-true (n % 2) 1 e))
+    go false e = let h = eqb-false (n % 2) 1 e in eq-eqb (suc n % 2) 1 (omega arith)
+
+-- one list changes
+module _ (f : Set) (list : ℕ) (b : Bool) where
+  among-but : (n : ℕ) → list < n → among n (but f list b) + bit (f list) ≡ among n f + bit b
+  unfolding among
+  among-but zero l = absurd (omega arith)
+  among-but (suc n) l =
+      by-eq n list
+      (λ e.
+      omega (
+        arith,
+        among-same (but f list b) f n (λ i h. but-other f list b i (omega arith)),
+        ap bit (ap (but f list b) e ∙ but-here f list b),
+        ap (λ i. bit (f i)) e,
+      ))
+      (λ ne. omega (arith, among-but n (omega arith), ap bit (but-other f list b n ne)))
+
+  pub number-but : list < 16 → number (but f list b) + bit (f list) ≡ number f + bit b
+  number-but l = among-but 16 l
+
+among-front : (n : ℕ) (f : Set) → among (suc n) f ≡ bit (f 0) + among n (λ i. f (suc i))
+unfolding among
+among-front zero f = refl
+among-front (suc n) f = omega (arith, among-front n f)
+
+-- the lists that have something
+module _ {A : Type 0} where
+  among-present : (n : ℕ) (os : List (Option A)) → length os ≤ n → among n (has os) ≡ length (present os)
+  among-present n [] h = among-none n
+  among-present zero (o ∷ os) h = absurd (omega arith)
+  among-present (suc n) (none ∷ os) h = omega (arith, among-front n (has (none ∷ os)), among-present n os (omega arith))
+  among-present (suc n) (some v ∷ os) h = omega (arith, among-front n (has (some v ∷ os)), among-present n os (omega arith))
+
+  pub number-present : (os : List (Option A)) → length os ≤ 16 → number (has os) ≡ length (present os)
+  number-present os h = among-present 16 os h
+
+  -- one of them comes to have something or nothing
+  pub has-set : (os : List (Option A)) (list : ℕ) (o : Option A) → list < length os → Alike (but (has os) list (there o)) (has (set os list o))
+  has-set os list o h i l =
+      by-eq i list
+      (λ e. rw e (but-here (has os) list (there o) ∙ ap there (sym (getD-set-same os list o none h))))
+      (λ ne. but-other (has os) list (there o) i ne ∙ ap there (sym (getD-set-other os list i o none ne)))

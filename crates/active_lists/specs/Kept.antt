@@ -1,0 +1,66 @@
+-- How the set of active lists is kept: a heap of the lists that were entered, the highest on top, and of each list whether it was entered, and whether it
+-- ended since; one that ended stays in the heap until it comes to the top. Assumes nothing.
+-- This file is replaced where the set is kept otherwise: another `Active`, another `Stands`; with it go the bodies in src/lib.rt and the proofs but `Sets`.
+use Prim.Native.Nat.{ℕ, _+_, _-_, _<_, _≤_}
+use mathlib.Core.Path.{_≡_}
+use mathlib.Core.Bool.{Bool, not}
+use mathlib.Core.List.{List}
+use lib.Dec.{eqb}
+use lib.ListN.{getD, length, take}
+use denote.Ref.{RefT}
+use denote.Triple.Both.{Both}
+use Rattle.heap.specs.Heap.{Entries, Heap, many}
+use Rattle.active_lists.specs.Active.{Set, bit, number}
+
+-- a value of the type `Active`
+abbrev pub Active : Type 0
+Active = List ℕ
+
+-- an entry's place in the order: the higher list comes first
+unfoldable pub rank : ℕ → ℕ
+rank list = 255 - list
+
+-- places 0 to 15: the heap
+abbrev pub places : Active → Entries
+places a = record { at = λ i. rank (getD (take 16 a) i 0); keys = length (take 16 a); lists = length (take 16 a) }
+
+-- places 16 to 31, one for each list: 0 where it is not in the heap, 1 where it ended, 2 where it is active
+abbrev pub mark : Active → ℕ → ℕ
+mark a list = getD a (16 + list) 0
+
+abbrev pub entered : Active → Set
+entered a list = not (eqb (mark a list) 0)
+
+-- place 32: the heap's length; place 33: how many lists are active
+abbrev pub len : Active → ℕ
+len a = getD a 32 0
+
+abbrev pub count : Active → ℕ
+count a = getD a 33 0
+
+-- a value stands for a set
+pub record Stands (a : Active) (f : Set) : Type 0 where
+  pub whole : length a ≡ 34
+  pub marks : (i : ℕ) → i < 16 → f i ≡ eqb (mark a i) 2
+  pub counts : count a ≡ number f
+  pub long : len a ≡ number (entered a)
+  pub heap : Heap (places a) (len a)
+  -- each list that was entered stands in the heap once, and nothing else does
+  pub once : (i : ℕ) → i < 16 → many (places a) (len a) (rank i) ≡ bit (entered a i)
+  pub only : (e : ℕ) → 0 < many (places a) (len a) e → 240 ≤ e
+
+-- a lent value as a precondition sees it, and as a promise does, at entry and at exit
+abbrev pub State : Type 0
+State = RefT Active
+
+abbrev pub States : Type 0
+States = Both State State
+
+abbrev pub stands : State → Set → Type 0
+stands a = Stands (a .now)
+
+abbrev pub stands-before : States → Set → Type 0
+stands-before a = stands (a .entry)
+
+abbrev pub stands-after : States → Set → Type 0
+stands-after a = stands (a .exit)
