@@ -1,4 +1,5 @@
--- For callers: the laws of sets, and that what a value stands for goes by the sixteen lists (`Stands`: `stands-same`).
+-- `Sets` and `Stands` are for callers; `Stands` says one thing, which is proved anew where the set is kept otherwise.
 pub mod Sets
 pub mod Stands
 mod Places
+mod Keeps

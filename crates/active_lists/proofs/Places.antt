@@ -13,8 +13,7 @@ use Rattle.heap.specs.Order.{Under}
 use Rattle.heap.specs.Heap.{Whole}
 use Rattle.heap.specs.Holes.{PutAt, Chosen}
 use Rattle.heap.proofs.Moves.{climb-stays, climb-goes, sift-stays, sift-goes, lesser-child}
-use Rattle.active_lists.specs.Kept.{Active, rank, places}
-use Rattle.active_lists.specs.Steps.{Beside, Rose, Sank}
+use Rattle.active_lists.specs.Kept.{Active, rank, places, Beside, Rose, Sank}
 
 -- the order of lists, as the code tests it
 pub lower-said : (x y : ℕ) → y < 256 → Less (rank y) (rank x) (ltb x y)

@@ -78,6 +78,14 @@ module _ (f : Set) (list : ℕ) (b : Bool) where
   pub number-but : list < 16 → number (but f list b) + bit (f list) ≡ number f + bit b
   number-but l = among-but 16 l
 
+-- a set that is told by what stands in a column, and one place of it changes
+pub told-set : {A : Type 0} (is : A → Bool) (d : A) (xs : List A) (list : ℕ) (x : A) → list < length xs → Alike (but (λ i. is (getD xs i d)) list (is x)) (λ i. is (getD (set xs list x) i d))
+told-set is d xs list x h i l =
+    let f : Set = λ j. is (getD xs j d) in
+    by-eq i list
+    (λ e. rw e (but-here f list (is x) ∙ ap is (sym (getD-set-same xs list x d h))))
+    (λ ne. but-other f list (is x) i ne ∙ ap is (sym (getD-set-other xs list i x d ne)))
+
 among-front : (n : ℕ) (f : Set) → among (suc n) f ≡ bit (f 0) + among n (λ i. f (suc i))
 unfolding among
 among-front zero f = refl
@@ -96,7 +104,4 @@ module _ {A : Type 0} where
 
   -- one of them comes to have something or nothing
   pub has-set : (os : List (Option A)) (list : ℕ) (o : Option A) → list < length os → Alike (but (has os) list (there o)) (has (set os list o))
-  has-set os list o h i l =
-      by-eq i list
-      (λ e. rw e (but-here (has os) list (there o) ∙ ap there (sym (getD-set-same os list o none h))))
-      (λ ne. but-other (has os) list (there o) i ne ∙ ap there (sym (getD-set-other os list i o none ne)))
+  has-set = told-set there none

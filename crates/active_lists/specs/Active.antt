@@ -36,14 +36,14 @@ has os i = there (getD os i none)
 abbrev pub Alike : Set → Set → Type 0
 Alike f g = (i : ℕ) → i < 16 → f i ≡ g i
 
-pub record Last (f : Set) (list : ℕ) : Type 0 where
+pub record HighestIn (f : Set) (list : ℕ) : Type 0 where
   pub small : list < 16
   pub inside : f list ≡ true
-  pub last : (i : ℕ) → i < 16 → f i ≡ true → i ≤ list
+  pub above : (i : ℕ) → i < 16 → f i ≡ true → i ≤ list
 
 -- the highest of the sixteen that is in the set, or none where none is
 abbrev pub IsHighest : Set → HighestActive → Type 0
-IsHighest f (Top list) = Last f list
+IsHighest f (Top list) = HighestIn f list
 IsHighest f Nothing = (i : ℕ) → i < 16 → f i ≡ false
 
 -- how many of the first n lists are in the set, and of the sixteen

@@ -10,7 +10,8 @@ use lib.ListN.{getD, length, take}
 use denote.Ref.{RefT}
 use denote.Triple.Both.{Both}
 use Rattle.heap.specs.Heap.{Entries, Heap, many}
-use Rattle.active_lists.specs.Active.{Set, bit, number}
+use Rattle.heap.specs.Holes.{Climbed, Sifted}
+use Rattle.active_lists.specs.Active.{Set, bit, number, Some}
 
 -- a value of the type `Active`
 abbrev pub Active : Type 0
@@ -38,8 +39,8 @@ len a = getD a 32 0
 abbrev pub count : Active → ℕ
 count a = getD a 33 0
 
--- a value stands for a set
-pub record Stands (a : Active) (f : Set) : Type 0 where
+-- a value keeps a set
+pub record Keeps (a : Active) (f : Set) : Type 0 where
   pub whole : length a ≡ 34
   pub marks : (i : ℕ) → i < 16 → f i ≡ eqb (mark a i) 2
   pub counts : count a ≡ number f
@@ -48,6 +49,10 @@ pub record Stands (a : Active) (f : Set) : Type 0 where
   -- each list that was entered stands in the heap once, and nothing else does
   pub once : (i : ℕ) → i < 16 → many (places a) (len a) (rank i) ≡ bit (entered a i)
   pub only : (e : ℕ) → 0 < many (places a) (len a) e → 240 ≤ e
+
+-- a value stands for a set where it keeps it; only the proofs of this crate look inside
+pub data Stands (a : Active) (f : Set) : Type 0 where
+  kept : Keeps a f → Stands a f
 
 -- a lent value as a precondition sees it, and as a promise does, at entry and at exit
 abbrev pub State : Type 0
@@ -64,3 +69,27 @@ stands-before a = stands (a .entry)
 
 abbrev pub stands-after : States → Set → Type 0
 stands-after a = stands (a .exit)
+
+-- what the steps of a list through the heap give: beside the heap nothing changes
+pub record Beside (a b : Active) : Type 0 where
+  pub whole : length b ≡ length a
+  pub same : (i : ℕ) → 16 ≤ i → getD b i 0 ≡ getD a i 0
+
+pub record Rose (a b : Active) (place list : ℕ) : Type 0 where
+  pub beside : Beside a b
+  pub climbed : Climbed (places a) (places b) place (rank list)
+
+pub record Sank (a b : Active) (n place list : ℕ) : Type 0 where
+  pub beside : Beside a b
+  pub sifted : Sifted (places a) (places b) n place (rank list)
+
+-- the top is a list that ended
+pub record Stale (a : Active) : Type 0 where
+  pub keeps : Some (Keeps a)
+  pub some : 0 < len a
+  pub ended : mark a (getD a 0 0) ≡ 2 → ⊥
+
+-- it is dropped, and the set stays
+pub record Dropped (a b : Active) : Type 0 where
+  pub less : len b + 1 ≡ len a
+  pub keeps : (f : Set) → Keeps a f → Keeps b f

@@ -1,4 +1,3 @@
--- `Active` says what is promised, `Kept` how it is kept, and `Steps` what the steps on the way give.
+-- `Active` says what is promised, `Kept` how it is kept.
 pub mod Active
 pub mod Kept
-pub mod Steps

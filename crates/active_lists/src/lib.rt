@@ -7,8 +7,7 @@ ghost use lib.ListN.{length};
 ghost use Rattle.integer.specs.Order.{Less};
 ghost use Rattle.heap.specs.Holes.{Chosen};
 ghost use Rattle.active_lists.specs.Active.{nobody, Some, Known, Activates, Deactivates, FindsHighest, Numbers, TellsOdd};
-ghost use Rattle.active_lists.specs.Kept.{rank, places, Stands, stands, stands-before, stands-after};
-ghost use Rattle.active_lists.specs.Steps.{Rose, Sank, Stale, Dropped};
+ghost use Rattle.active_lists.specs.Kept.{rank, places, Stands, stands, stands-before, stands-after, Rose, Sank, Stale, Dropped};
 
 // The heap at 0 to 15, a mark for each list from MARKS on, the heap's length and the number of active lists.
 pub type Active = [u8; 34];

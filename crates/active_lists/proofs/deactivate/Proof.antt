@@ -1,7 +1,8 @@
 -- `deactivate` meets its contract. Assumes nothing.
 use native.Mathlib.Omega.{arith}
 use borrow.Author.Needs.{needs}
-use Rattle.active_lists.proofs.Stands.{less, ends}
+use Rattle.active_lists.specs.Kept.{kept}
+use Rattle.active_lists.proofs.Keeps.{opened, less, ends}
 use Rattle.active_lists.proofs.deactivate.Statement.{statement}
 use Rattle.active_lists.proofs.deactivate.Tie as tie
 
@@ -12,6 +13,6 @@ deactivate-spec =
     (λ c. search needs)
     (λ c. search needs)
     (λ c. search needs)
-    (λ c. let p = c .before .pre in omega (arith, less (p .stands) (p .small) (p .is)))
+    (λ c. let p = c .before .pre in omega (arith, less (opened (p .stands)) (p .small) (p .is)))
     (λ c. search needs)
-    (λ c f s e. ends s (c .before .pre .small) e))
+    (λ c f s e. kept (ends (opened s) (c .before .pre .small) e)))
