@@ -4,9 +4,9 @@ use mathlib.Core.Path.{_≡_, refl, sym, ap, _∙_}
 use mathlib.Core.Bool.{Bool, true, false, cond, not}
 use native.Mathlib.Omega.{arith}
 use lib.Dec.{eqb}
-use lib.ListN.{length, getD, set, take, replicate, length-set, getD-replicate}
+use lib.ListN.{length, getD, set, replicate, length-set, getD-replicate}
 use lib.Seq.{getD-set-same, getD-set-other, take-set-le}
-use borrow.Author.Tests.{eqb-true, eqb-false, eq-eqb, ne-eqb}
+use borrow.Author.Tests.{eqb-true, eq-eqb, ne-eqb}
 use Rattle.heap.specs.Order.{one}
 use Rattle.heap.specs.Heap.{Heap, many, Pushed, Popped}
 use Rattle.heap.proofs.Laws.{by-eq, one-same, one-other, count-none, count-at, top-counted, heap-none}
@@ -14,7 +14,7 @@ use Rattle.heap.proofs.Moves.{pushed, popped}
 use Rattle.active_lists.specs.Active.{Set, nobody, but, with, without, bit, number, Alike, HighestIn}
 use Rattle.active_lists.specs.Kept.{Active, rank, places, mark, entered, len, count, Keeps, Stands, kept, Beside, Rose, Sank, Stale, Dropped}
 use Rattle.active_lists.proofs.Sets.{but-here, but-other, number-none, number-same, number-upto, number-but}
-use Rattle.active_lists.proofs.Places.{read, places-whole}
+use Rattle.active_lists.proofs.Places.{read}
 
 pub opened : {a : Active} {f : Set} → Stands a f → Keeps a f
 opened (kept s) = s
@@ -31,7 +31,7 @@ keeps-same {a} {f} {g} s h = record {
   only = s .only;
 }
 
--- b is a, but for the mark m of a list, in what is beside the heap
+-- b has the marks of a, but m for one list
 pub record Marked (a b : Active) (list m : ℕ) : Type 0 where
   pub whole : length b ≡ 34
   pub here : mark b list ≡ m
@@ -64,23 +64,21 @@ module _ {a b : Active} {f : Set} {list m : ℕ} (s : Keeps a f) (l : list < 16)
   abbrev is : Bool
   is = not (eqb m 0)
 
-  turned : Alike (but f list (eqb m 2)) (λ i. eqb (mark b i) 2)
-  turned i k =
+  -- what the marks tell
+  told : (is : ℕ → Bool) (g : Set) → Alike g (λ i. is (mark a i)) → Alike (but g list (is m)) (λ i. is (mark b i))
+  told is g h i k =
       by-eq i list
-      (λ e. ap (but f list (eqb m 2)) e ∙ but-here f list (eqb m 2) ∙ ap (λ x. eqb x 2) (sym (ap (mark b) e ∙ t .here)))
-      (λ ne. but-other f list (eqb m 2) i ne ∙ s .marks i k ∙ ap (λ x. eqb x 2) (sym (t .other i k ne)))
+      (λ e. ap (but g list (is m)) e ∙ but-here g list (is m) ∙ ap is (sym (ap (mark b) e ∙ t .here)))
+      (λ ne. but-other g list (is m) i ne ∙ h i k ∙ ap is (sym (t .other i k ne)))
 
   entries : Alike (but (entered a) list is) (entered b)
-  entries i k =
-      by-eq i list
-      (λ e. ap (but (entered a) list is) e ∙ but-here (entered a) list is ∙ ap (λ x. not (eqb x 0)) (sym (ap (mark b) e ∙ t .here)))
-      (λ ne. but-other (entered a) list is i ne ∙ ap (λ x. not (eqb x 0)) (sym (t .other i k ne)))
+  entries = told (λ x. not (eqb x 0)) (entered a) (λ i k. refl)
 
   -- the one law: the list's mark becomes m, and its entry in the heap goes by that
   marked : count b ≡ number (but f list (eqb m 2)) → Heap (places b) (len b) → len b + bit was ≡ len a + bit is → ((e : ℕ) → many (places b) (len b) e + share e list was ≡ many (places a) (len a) e + share e list is) → Keeps b (but f list (eqb m 2))
   marked c o n h = record {
     whole = t .whole;
-    marks = turned;
+    marks = told (λ x. eqb x 2) f (s .marks);
     counts = c;
     long = omega (arith, s .long, number-same (but (entered a) list is) (entered b) entries, number-but (entered a) list is l);
     heap = o;

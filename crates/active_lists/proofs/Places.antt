@@ -1,6 +1,6 @@
 -- A store into the heap's places, and the steps of a list up and down. Assumes nothing.
-use Prim.Native.Nat.{ℕ, _+_, _*_, _-_, _<_, _≤_}
-use mathlib.Core.Path.{_≡_, refl, sym, ap, _∙_}
+use Prim.Native.Nat.{ℕ, _+_, _*_, _<_, _≤_}
+use mathlib.Core.Path.{_≡_, ap, _∙_}
 use mathlib.Core.Bool.{Bool}
 use native.Mathlib.Omega.{arith}
 use lib.Dec.{ltb}
@@ -10,7 +10,6 @@ use mir.Val.{boolByte}
 use borrow.Author.Tests.{ltb-true, ltb-false}
 use Rattle.integer.specs.Order.{Less}
 use Rattle.heap.specs.Order.{Under}
-use Rattle.heap.specs.Heap.{Whole}
 use Rattle.heap.specs.Holes.{PutAt, Chosen}
 use Rattle.heap.proofs.Moves.{climb-stays, climb-goes, sift-stays, sift-goes, lesser-child}
 use Rattle.active_lists.specs.Kept.{Active, rank, places, Beside, Rose, Sank}
@@ -23,9 +22,6 @@ lower-said x y l = record { yes = λ e. omega (arith, ltb-true x y e); no = λ e
 module _ (a : Active) where
   pub read : (i : ℕ) → i < 16 → places a .at i ≡ rank (getD a i 0)
   read i l = ap rank (getD-take 16 a i 0 l)
-
-  pub places-whole : length a ≡ 34 → Whole (places a)
-  places-whole w = record { keys = length-take-le 16 a (omega arith); lists = length-take-le 16 a (omega arith) }
 
   module _ (place list : ℕ) (l : place < 16) where
     pub beside-set : Beside a (set a place list)

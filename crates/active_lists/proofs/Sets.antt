@@ -1,16 +1,16 @@
--- Laws of sets of lists: how many are in them, and the lists that have something. Assumes nothing.
+-- Laws of sets of lists: how many are in them, and the lists that have something. They know nothing of how a set is kept. Assumes nothing.
 use Prim.Native.Nat.{ℕ, zero, suc, _+_, _%_, _<_, _≤_}
 use mathlib.Core.Path.{_≡_, refl, sym, ap, _∙_}
 use mathlib.Core.Bool.{Bool, true, false, not}
 use mathlib.Core.Option.{Option, none, some}
 use mathlib.Core.List.{List, [], _∷_}
 use native.Mathlib.Omega.{arith}
+use native.Mathlib.Decide.{ℕ-discrete}
 use lib.Dec.{eqb}
 use lib.ListN.{length, getD, set}
 use lib.Seq.{getD-set-same, getD-set-other}
 use borrow.Author.Tests.{eqb-true, eqb-false, eq-eqb, ne-eqb}
 use Rattle.rules.specs.Piece.{there, present}
-use Rattle.heap.proofs.Laws.{by-eq}
 use Rattle.active_lists.specs.Active.{Set, nobody, but, has, bit, among, number, is-odd, Alike}
 
 module _ (f : Set) (list : ℕ) (b : Bool) where
@@ -65,15 +65,15 @@ module _ (f : Set) (list : ℕ) (b : Bool) where
   unfolding among
   among-but zero l = absurd (omega arith)
   among-but (suc n) l =
-      by-eq n list
-      (λ e.
-      omega (
-        arith,
-        among-same (but f list b) f n (λ i h. but-other f list b i (omega arith)),
-        ap bit (ap (but f list b) e ∙ but-here f list b),
-        ap (λ i. bit (f i)) e,
-      ))
-      (λ ne. omega (arith, among-but n (omega arith), ap bit (but-other f list b n ne)))
+      elim (ℕ-discrete n list) [
+        | yes e ↦ omega (
+          arith,
+          among-same (but f list b) f n (λ i h. but-other f list b i (omega arith)),
+          ap bit (ap (but f list b) e ∙ but-here f list b),
+          ap (λ i. bit (f i)) e,
+        )
+        | no ne ↦ omega (arith, among-but n (omega arith), ap bit (but-other f list b n ne))
+      ]
 
   pub number-but : list < 16 → number (but f list b) + bit (f list) ≡ number f + bit b
   number-but l = among-but 16 l
@@ -82,9 +82,10 @@ module _ (f : Set) (list : ℕ) (b : Bool) where
 pub told-set : {A : Type 0} (is : A → Bool) (d : A) (xs : List A) (list : ℕ) (x : A) → list < length xs → Alike (but (λ i. is (getD xs i d)) list (is x)) (λ i. is (getD (set xs list x) i d))
 told-set is d xs list x h i l =
     let f : Set = λ j. is (getD xs j d) in
-    by-eq i list
-    (λ e. rw e (but-here f list (is x) ∙ ap is (sym (getD-set-same xs list x d h))))
-    (λ ne. but-other f list (is x) i ne ∙ ap is (sym (getD-set-other xs list i x d ne)))
+    elim (ℕ-discrete i list) [
+      | yes e ↦ rw e (but-here f list (is x) ∙ ap is (sym (getD-set-same xs list x d h)))
+      | no ne ↦ but-other f list (is x) i ne ∙ ap is (sym (getD-set-other xs list i x d ne))
+    ]
 
 among-front : (n : ℕ) (f : Set) → among (suc n) f ≡ bit (f 0) + among n (λ i. f (suc i))
 unfolding among

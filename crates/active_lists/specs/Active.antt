@@ -1,5 +1,5 @@
--- What is promised of the active lists. It speaks of the set of them alone: P says which sets a value stands for at entry, Q at exit. How a value stands
--- for a set is said in `Kept`, of which nothing is known here, and by no caller. Assumes nothing.
+-- What is promised of the active lists. It speaks of the set of them alone: P says for which sets a value stands at entry, Q at exit. How a value stands
+-- for a set is said in `Kept`, of which neither this file nor any caller knows more: another way to keep the set changes neither. Assumes nothing.
 use Prim.Native.Nat.{ℕ, zero, suc, _+_, _<_, _≤_}
 use mathlib.Core.Path.{_≡_}
 use mathlib.Core.Bool.{Bool, true, false, cond, not}
@@ -36,6 +36,7 @@ has os i = there (getD os i none)
 abbrev pub Alike : Set → Set → Type 0
 Alike f g = (i : ℕ) → i < 16 → f i ≡ g i
 
+-- no list of the set is above this one
 pub record HighestIn (f : Set) (list : ℕ) : Type 0 where
   pub small : list < 16
   pub inside : f list ≡ true
@@ -46,10 +47,10 @@ abbrev pub IsHighest : Set → HighestActive → Type 0
 IsHighest f (Top list) = HighestIn f list
 IsHighest f Nothing = (i : ℕ) → i < 16 → f i ≡ false
 
--- how many of the first n lists are in the set, and of the sixteen
 abbrev pub bit : Bool → ℕ
 bit b = cond b 1 0
 
+-- how many of the first n lists are in the set, and how many of the sixteen
 unfoldable pub among : ℕ → Set → ℕ
 among zero f = 0
 among (suc n) f = bit (f n) + among n f
@@ -61,7 +62,7 @@ unfoldable pub is-odd : ℕ → Bool
 is-odd zero = false
 is-odd (suc n) = not (is-odd n)
 
--- what is asked of a value: that it stands for some set, and of a list in it
+-- what is asked of a value: that it stands for some set, or for one in which a list of the sixteen is, or is not
 abbrev pub Some : (Set → Type 0) → Type 0
 Some P = (f : Set) × P f
 
@@ -82,6 +83,7 @@ Deactivates P Q list = (f : Set) → P f → f list ≡ true → Q (without f li
 abbrev pub FindsHighest : (Set → Type 0) → (Set → Type 0) → HighestActive → Type 0
 FindsHighest P Q r = (f : Set) → P f → Q f × IsHighest f r
 
+-- r is how many lists are active, or whether that is odd
 abbrev pub Numbers : (Set → Type 0) → ℕ → Type 0
 Numbers P r = (f : Set) → P f → r ≡ number f
 

@@ -1,9 +1,10 @@
--- How the set of active lists is kept: a heap of the lists that were entered, the highest on top, and of each list whether it was entered, and whether it
--- ended since; one that ended stays in the heap until it comes to the top. Assumes nothing.
--- This file is replaced where the set is kept otherwise: another `Active`, another `Stands`; with it go the bodies in src/lib.rt and the proofs but `Sets`.
+-- How the set of active lists is kept: in a heap of the lists that were entered, the highest on top, with a mark of each list; one that ended stays in the
+-- heap until it comes to the top. Assumes nothing.
+-- To keep the set in another way, replace this file (another `Active`, another `Keeps`), the bodies in src/lib.rt and the proofs but `Sets`; the contracts
+-- there, `Active.antt`, `stands-same` and every caller stay as they are.
 use Prim.Native.Nat.{ℕ, _+_, _-_, _<_, _≤_}
 use mathlib.Core.Path.{_≡_}
-use mathlib.Core.Bool.{Bool, not}
+use mathlib.Core.Bool.{not}
 use mathlib.Core.List.{List}
 use lib.Dec.{eqb}
 use lib.ListN.{getD, length, take}

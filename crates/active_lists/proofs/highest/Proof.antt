@@ -1,5 +1,4 @@
 -- `highest` meets its contract. What the value stands for stays; the measure is the heap's length. Assumes nothing.
-use mathlib.Core.Path.{ap, _∙_}
 use native.Mathlib.Omega.{arith}
 use borrow.Author.Needs.{needs}
 use Rattle.active_lists.specs.Active.{Set, Some}
