@@ -1,17 +1,18 @@
 -- Laws of sets of lists: how many are in them, and the lists that have something. They know nothing of how a set is kept. Assumes nothing.
-use Prim.Native.Nat.{ℕ, zero, suc, _+_, _%_, _<_, _≤_}
+use Prim.Native.Nat.{ℕ, zero, suc, _+_, _<_, _≤_}
 use mathlib.Core.Path.{_≡_, refl, sym, ap, _∙_}
-use mathlib.Core.Bool.{Bool, true, false, not}
+use mathlib.Core.Logic.{⊎-elim}
+use mathlib.Core.Bool.{Bool, true, false, true≢false}
 use mathlib.Core.Option.{Option, none, some}
 use mathlib.Core.List.{List, [], _∷_}
 use native.Mathlib.Omega.{arith}
 use native.Mathlib.Decide.{ℕ-discrete}
-use lib.Dec.{eqb}
-use lib.ListN.{length, getD, set}
+use lib.ListN.{length, getD, set, List·getD-eq-default}
 use lib.Seq.{getD-set-same, getD-set-other}
-use borrow.Author.Tests.{eqb-true, eqb-false, eq-eqb, ne-eqb}
+use borrow.Author.Tests.{eq-eqb, ne-eqb}
 use Rattle.rules.specs.Piece.{there, present}
-use Rattle.active_lists.specs.Active.{Set, nobody, but, has, bit, among, number, is-odd, Alike}
+use Rattle.rules.proofs.At.{le-or-lt}
+use Rattle.active_lists.specs.Active.{Set, nobody, but, has, bit, among, number, Alike, HighestIn}
 
 module _ (f : Set) (list : ℕ) (b : Bool) where
   pub but-here : but f list b list ≡ b
@@ -48,16 +49,6 @@ among-upto f (suc n) = omega (arith, among-upto f n, bit-upto (f n))
 
 pub number-upto : (f : Set) → number f ≤ 16
 number-upto f = among-upto f 16
-
--- the last bit of a number says whether it is odd
-pub odd-said : (n : ℕ) → eqb (n % 2) 1 ≡ is-odd n
-unfolding is-odd
-odd-said zero = refl
-odd-said (suc n) = go (is-odd n) (odd-said n)
-  where
-    go : (r : Bool) → eqb (n % 2) 1 ≡ r → eqb (suc n % 2) 1 ≡ not r
-    go true e = ne-eqb (suc n % 2) 1 (λ q. omega (arith, eqb-true (n % 2) 1 e))
-    go false e = let h = eqb-false (n % 2) 1 e in eq-eqb (suc n % 2) 1 (omega arith)
 
 -- one list changes
 module _ (f : Set) (list : ℕ) (b : Bool) where
@@ -106,3 +97,23 @@ module _ {A : Type 0} where
   -- one of them comes to have something or nothing
   pub has-set : (os : List (Option A)) (list : ℕ) (o : Option A) → list < length os → Alike (but (has os) list (there o)) (has (set os list o))
   has-set = told-set there none
+
+  absent : (o : Option A) → there o ≡ false → o ≡ none
+  absent none e = refl
+  absent (some v) e = absurd (true≢false e)
+
+  module _ (os : List (Option A)) (h : length os ≤ 16) where
+    absent-at : (i : ℕ) → (i < 16 → has os i ≡ false) → getD os i none ≡ none
+    absent-at i f = ⊎-elim (λ l. List·getD-eq-default os none (omega arith)) (λ l. absent (getD os i none) (f l)) (le-or-lt 16 i)
+
+    -- where none is active, none has anything
+    pub has-none : ((i : ℕ) → i < 16 → has os i ≡ false) → (i : ℕ) → getD os i none ≡ none
+    has-none f i = absent-at i (f i)
+
+    -- above the highest that is active, none has anything
+    pub has-last : (list : ℕ) → HighestIn (has os) list → (i : ℕ) → list < i → getD os i none ≡ none
+    has-last list t i l = absent-at i (λ k. go k (has os i) refl)
+      where
+        go : i < 16 → (b : Bool) → has os i ≡ b → b ≡ false
+        go k false e = refl
+        go k true e = absurd (omega (arith, t .above i k e))

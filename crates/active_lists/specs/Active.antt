@@ -1,8 +1,8 @@
 -- What is promised of the active lists. It speaks of the set of them alone: P says for which sets a value stands at entry, Q at exit. How a value stands
 -- for a set is said in `Kept`, of which neither this file nor any caller knows more: another way to keep the set changes neither. Assumes nothing.
-use Prim.Native.Nat.{ℕ, zero, suc, _+_, _<_, _≤_}
+use Prim.Native.Nat.{ℕ, zero, suc, _+_, _%_, _<_, _≤_}
 use mathlib.Core.Path.{_≡_}
-use mathlib.Core.Bool.{Bool, true, false, cond, not}
+use mathlib.Core.Bool.{Bool, true, false, cond}
 use mathlib.Core.Option.{Option, none}
 use mathlib.Core.List.{List}
 use lib.Dec.{eqb}
@@ -58,10 +58,6 @@ among (suc n) f = bit (f n) + among n f
 abbrev pub number : Set → ℕ
 number f = among 16 f
 
-unfoldable pub is-odd : ℕ → Bool
-is-odd zero = false
-is-odd (suc n) = not (is-odd n)
-
 -- what is asked of a value: that it stands for some set, or for one in which a list of the sixteen is, or is not
 abbrev pub Some : (Set → Type 0) → Type 0
 Some P = (f : Set) × P f
@@ -88,4 +84,4 @@ abbrev pub Numbers : (Set → Type 0) → ℕ → Type 0
 Numbers P r = (f : Set) → P f → r ≡ number f
 
 abbrev pub TellsOdd : (Set → Type 0) → Bool → Type 0
-TellsOdd P r = (f : Set) → P f → r ≡ is-odd (number f)
+TellsOdd P r = (f : Set) → P f → r ≡ eqb (number f % 2) 1
