@@ -1,3 +1,3 @@
 pub mod Laws
 pub mod Store
-mod Moves
+pub mod Moves
