@@ -7,7 +7,7 @@ use lib.IntN.{ℤ, pos, negsuc, _+ℤ_, _-ℤ_, sucℤ, predℤ, +ℤ-one, -ℤ-
 use lib.Signed.{ltZ, mag}
 use lib.Dec.{ltb, eqb}
 use borrow.Author.Tests.{lt-ltb, le-ltb, ltb-true, ltb-false, eqb-true, eqb-false}
-use mir.Syntax.{Width as Bits, w64}
+use mir.Syntax.{Width as Bits, w32, w64}
 use mir.Val.{SFits, hbits, ofZ, toZ}
 use mir.ValLaws.{toZ-ofZ}
 use Rattle.rules.specs.Lists.{Width, seats, instants, key64, point64}
@@ -52,6 +52,10 @@ faithful-instants = record { key-point = key-point; point-key = point-key; below
 -- a signed value that went through a local, as the logic has it
 pub back : (w : Bits) (a : ℤ) → mag a < 2 ^ hbits w → toZ w (ofZ w a) ≡ a
 back w a f = toZ-ofZ w a (record { sfits = f })
+
+-- a price as an i64
+pub wide : (v : ℤ) → mag v < 2 ^ 31 → SFits w64 (toZ w32 (ofZ w32 v)) × (toZ w64 (ofZ w64 (toZ w32 (ofZ w32 v))) ≡ v)
+wide v f = rw (back w32 v f) (record { sfits = omega arith }, back w64 v (omega arith))
 
 pub key-back : (a : ℤ) → mag a < 2 ^ 63 → key64 (toZ w64 (ofZ w64 a)) ≡ key64 a
 key-back a f = ap key64 (back w64 a f)

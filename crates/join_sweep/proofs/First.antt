@@ -7,17 +7,17 @@ use mathlib.Core.List.{List, [], _∷_}
 use native.Mathlib.Omega.{arith}
 use lib.IntN.{ℤ}
 use lib.ListN.{length, getD, List·getD-map}
-use Rattle.rules.specs.Piece.{Piece, Range, column, present, AllWellFormed}
+use Rattle.rules.specs.Piece.{Range, column, present, AllWellFormed}
 use Rattle.rules.specs.Lists.{Width}
 use Rattle.rules.specs.Sweep as rules
 use Rattle.rules.specs.Proving.Below.{nones}
-use Rattle.rules.proofs.Sweep.{kind-small, all-in, own-point}
+use Rattle.rules.proofs.Sweep.{kind-small}
 use Rattle.multiway_sweep.specs.Front.{edge, Front}
 use Rattle.multiway_sweep.specs.Steps.{Reading, Arrays, NoStart, Took, Holds}
 use Rattle.multiway_sweep.specs.declared.Sizes.{Sizes}
 use Rattle.multiway_sweep.specs.declared.Step.{Step}
 use Rattle.multiway_sweep.specs.declared.Step.the-variants.{Start, End, Done}
-use Rattle.multiway_sweep.proofs.Front.{front-column, front-last, front-ends, front-own, wf-at}
+use Rattle.multiway_sweep.proofs.Front.{front-column, front-last, front-ends, front-point}
 use Rattle.slots.specs.Slots.{Slots, active}
 use Rattle.slots.specs.Stretch.{Stretch as StretchOf}
 use Rattle.join_sweep.specs.Stretches.{after, Busy, StartsAt, Begun, BegunAfter, Ahead, Reached, Joining, Opened}
@@ -27,11 +27,6 @@ use Rattle.join_sweep.specs.declared.JoinSweep.{JoinSweep}
 use Rattle.join_sweep.specs.declared.LastEnd.{LastEnd}
 use Rattle.slots.proofs.Slots.{active-length, count-none, nones-count}
 use Rattle.join_sweep.proofs.Turns.{Later, moved}
-
-module _ {A : Type 0} where
-  -- every event is at a point of the line
-  front-point : (n : ℕ) (ls : List (List (Piece A))) → AllWellFormed n ls → {t : ℕ} {left : List (rules.Event A)} {act : List (mathlib.Core.Option.Option A)} {e : rules.Event A} → Front ls t (e ∷ left) act → rules.point e < n
-  front-point n ls wf {e = e} f = all-in (λ x. rules.point x < n) e (rules.own (rules.list e) (getD ls (rules.list e) [])) (own-point (rules.list e) 0 n (getD ls (rules.list e) []) (wf-at n (rules.list e) ls wf)) (front-own n ls wf f)
 
 -- nothing that ended before k is active
 module _ {P : Type 0} {w : Width P} {c : Reading P} {ls : List (List Range)} {a : Arrays} {s : Slots} {j : JoinSweep} (k : ℕ) (g : Joining w c ls a s j (2 * k)) where

@@ -1,11 +1,11 @@
 -- What a join says by the presence of its lists and its combiner's answer. Assumes nothing.
 use Prim.Native.Nat.{ℕ, _≤_, min}
-use mathlib.Core.Path.{_≡_, sym, _∙_, subst}
+use mathlib.Core.Path.{_≡_, sym, _∙_}
 use mathlib.Core.Bool.{Bool, true, false}
 use mathlib.Core.Option.{Option, none}
+use mathlib.Core.List.{List}
 use native.Mathlib.Omega.{arith}
 use lib.IntN.{ℤ}
-use lib.ListN.{length}
 use Rattle.many_way_rules.specs.Combiners.{combine}
 use Rattle.many_way_rules.specs.Selections.{admitted}
 use Rattle.many_way_rules.specs.Operations.{rule-of}
@@ -14,10 +14,15 @@ use Rattle.many_way_rules.specs.declared.Operation.the-variants.{Join}
 use Rattle.many_way_rules.proofs.Selections.{by-number, admitted-number}
 use Rattle.slots.specs.Slots.{Slots, active, values-of, Counted}
 use Rattle.slots.proofs.Slots.{active-length}
+use Rattle.multiway_pass.specs.Pieces.{Present}
 
 -- an admission goes by how many lists are present
-pub admits-number : (a : Admission) {lists n : ℕ} {s : Slots} → Counted lists n s → by-number a lists n ≡ admitted a (active lists s)
-admits-number a {lists} {n} {s} c = rw (c .count) (subst (λ m. by-number a m (length (values-of lists s)) ≡ admitted a (active lists s)) (active-length lists s) (admitted-number a (active lists s)))
+pub admits-number : (a : Admission) {lists n : ℕ} {os : List (Option ℤ)} → Present lists n os → by-number a lists n ≡ admitted a os
+admits-number a {os = os} p = rw (p .count, ← p .long) (admitted-number a os)
+
+-- the lists that the places hold
+pub counted-present : {lists n : ℕ} {s : Slots} → Counted lists n s → Present lists n (active lists s)
+counted-present {lists} {s = s} c = record { long = active-length lists s; count = c .count }
 
 module _ (a : Admission) (combiner n : ℕ) (s : Slots) {t : Bool} (e : t ≡ admitted a (active n s)) where
   pub not-admitted : t ≡ false → none ≡ rule-of (Join a combiner) (active n s)

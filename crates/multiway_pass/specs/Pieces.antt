@@ -1,9 +1,11 @@
 -- Pieces as the code holds them: what a join says of a stretch, and a piece that may still grow. Assumes nothing.
+use Prim.Native.Nat.{ℕ}
 use mathlib.Core.Path.{_≡_}
 use mathlib.Core.Bool.{Bool}
 use mathlib.Core.Option.{Option, none, some}
 use mathlib.Core.List.{List, [], _∷_, _++_}
 use lib.IntN.{ℤ}
+use lib.ListN.{length}
 use Rattle.rules.specs.Piece as rules
 use Rattle.rules.specs.Runs.{push}
 use Rattle.multiway_pass.specs.declared.Ruling.{Ruling}
@@ -11,6 +13,11 @@ use Rattle.multiway_pass.specs.declared.Ruling.the-variants.{Nothing as 
 use Rattle.multiway_pass.specs.declared.Piece.{Piece}
 use Rattle.multiway_pass.specs.declared.Pending.{Pending}
 use Rattle.multiway_pass.specs.declared.Pending.the-variants.{Nothing, One}
+
+-- so many lists have os, n of them something
+pub record Present (lists n : ℕ) (os : List (Option ℤ)) : Type 0 where
+  pub long : length os ≡ lists
+  pub count : n ≡ length (rules.present os)
 
 abbrev pub ruling-of : Ruling → Option ℤ
 ruling-of NotAdmitted = none

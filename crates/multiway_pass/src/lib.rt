@@ -3,16 +3,19 @@
 use combine::Combined;
 use combine::combine;
 use many_way_rules::Admission;
-ghost use Prim.Native.Nat.{_<_, _≤_};
+ghost use Prim.Native.Nat.{_<_};
 ghost use mathlib.Core.Path.{_≡_};
+ghost use mathlib.Core.Option.{Option};
+ghost use mathlib.Core.List.{List};
+ghost use lib.IntN.{ℤ};
 ghost use Rattle.rules.specs.Piece.{Within};
 ghost use Rattle.rules.specs.Runs.{touch};
 ghost use Rattle.rules.specs.Same.{eqℤ};
 ghost use Rattle.many_way_rules.specs.Selections.{admitted};
 ghost use Rattle.many_way_rules.specs.Operations.{rule-of};
 ghost use Rattle.many_way_rules.specs.declared.Operation.the-variants.{Join};
-ghost use Rattle.slots.specs.Slots.{Slots, active, Counted, slots, slots-before};
-ghost use Rattle.multiway_pass.specs.Pieces.{ruling-of, piece-of, waiting, PushedOn};
+ghost use Rattle.slots.specs.Slots.{active, Counted, slots, slots-before};
+ghost use Rattle.multiway_pass.specs.Pieces.{Present, ruling-of, piece-of, waiting, PushedOn};
 
 // What a join says of a stretch: not admitted, or admitted with a value.
 pub enum Ruling {
@@ -40,7 +43,7 @@ pub struct Pushed {
 
 // Whether a point is admitted at which so many of the lists are present.
 pub fn admits(admission: Admission, lists: usize, how_many: usize) -> bool
-    ensures { λ r. ⌜ ((s : Slots) → Counted lists «how_many» s → r ≡ admitted admission (active lists s)) ⌝ }
+    ensures { λ r. ⌜ ((os : List (Option ℤ)) → Present lists «how_many» os → r ≡ admitted admission os) ⌝ }
 {
     match admission {
         Admission::Every => how_many == lists,

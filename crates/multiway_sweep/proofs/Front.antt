@@ -13,11 +13,11 @@ use borrow.Author.Tests.{lt-ltb, le-ltb, eq-eqb, eqb-true, eqb-false}
 use Rattle.rules.specs.Piece.{Piece, at, Within, AllWellFormed}
 use Rattle.rules.specs.Piece.{column}
 use Rattle.rules.specs.Proving.Below.{nones}
-use Rattle.rules.specs.Sweep.{Event, starts, ends, list, put, sort, own, listed, events, All, In}
+use Rattle.rules.specs.Sweep.{Event, starts, ends, point, list, put, sort, own, listed, events, All, In}
 use Rattle.rules.specs.Proving.Moments.{moment, Before, Sorted}
 use Rattle.multiway_sweep.specs.Front.{value-from, apply, run, Front, Next}
 use Rattle.rules.proofs.At.{at-in, at-before, at-after, at-late, le-or-lt}
-use Rattle.rules.proofs.Sweep.{Later, InTurn, put-cases, all-map, all-append, all-right, all-in, all-sort, sorted-right, sort-in, own-list, own-from, listed-list, listed-in-turn, events-sorted}
+use Rattle.rules.proofs.Sweep.{Later, InTurn, put-cases, all-map, all-append, all-right, all-in, all-sort, sorted-right, sort-in, own-list, own-from, own-point, listed-list, listed-in-turn, events-sorted}
 
 module _ {A : Type 0} where
   module _ (j t : ℕ) where
@@ -172,7 +172,7 @@ module _ {A : Type 0} where
       go rest (inl j) = let q = all-in (λ x. list x ≡ k) e (own k l) (own-list k l) j in (0, omega arith, omega arith, rw q j)
       go rest (inr j) = let r = rest j in (suc (r .0), omega arith, omega arith, r .3)
 
-  pub wf-at : (n j : ℕ) (ls : List (List (Piece A))) → AllWellFormed n ls → Within 0 n (getD ls j [])
+  wf-at : (n j : ℕ) (ls : List (List (Piece A))) → AllWellFormed n ls → Within 0 n (getD ls j [])
   wf-at n j [] w = omega arith
   wf-at n zero (l ∷ ls) w = w .0
   wf-at n (suc j) (l ∷ ls) w = wf-at n j ls (w .1)
@@ -247,8 +247,12 @@ module _ {A : Type 0} where
       pub front-list : list e < length ls
       front-list = let m = listed-in e 0 ls front-in in omega arith
 
-      pub front-own : In e (own (list e) (getD ls (list e) []))
+      front-own : In e (own (list e) (getD ls (list e) []))
       front-own = let m = listed-in e 0 ls front-in in let q : m .0 ≡ list e = omega arith in rw q at (m .3)
+
+      -- it is at a point of the line
+      pub front-point : point e < n
+      front-point = all-in (λ x. point x < n) e (own (list e) (getD ls (list e) [])) (own-point (list e) 0 n (getD ls (list e) []) (wf-at n (list e) ls wf)) front-own
 
       -- what the event's list has just before it
       front-prior : getD act (list e) none ≡ track (list e) (moment e) (own (list e) (getD ls (list e) [])) none

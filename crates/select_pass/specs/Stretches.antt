@@ -1,0 +1,21 @@
+-- Where a selection's stretches start and how far they reach. Assumes nothing.
+use Prim.Native.Nat.{ℕ, _+_, _≤_, _<_}
+use mathlib.Core.Path.{_≡_}
+use mathlib.Core.Logic.{_⊎_}
+use Rattle.multiway_sweep.specs.Front.{edge}
+use Rattle.multiway_sweep.specs.Steps.{On}
+use Rattle.multiway_sweep.specs.declared.Step.{Step}
+use Rattle.select_pass.specs.declared.StretchStart.{StretchStart}
+use Rattle.select_pass.specs.declared.StretchStart.the-variants.{At, Nowhere}
+use Rattle.select_pass.specs.declared.StretchBefore.{StretchBefore}
+use Rattle.select_pass.specs.declared.StretchBefore.the-variants.{Of, Nothing}
+
+-- a stretch runs from where it starts to the last point that the event does not bear on; there is none where that comes first
+abbrev pub StretchesTo : Step → StretchStart → StretchBefore → Type 0
+StretchesTo e from (Of x) = (from ≡ At (x .start)) × On (λ v. (x .start < edge v) × (x .end + 1 ≡ edge v)) ⊥ e
+StretchesTo e from Nothing = (s : ℕ) → from ≡ At s → On (λ v. edge v ≤ s) (Unit {0}) e
+
+-- the next one starts at the first point that the event bears on, unless no list is active then or that is past the greatest
+abbrev pub StartsAfter : Step → ℕ → ℕ → StretchStart → Type 0
+StartsAfter e n greatest (At s) = On (λ v. s ≡ edge v) ⊥ e
+StartsAfter e n greatest Nowhere = (n ≡ 0) ⊎ On (λ v. greatest < edge v) (Unit {0}) e
