@@ -2,3 +2,4 @@
 pub mod Stretches
 pub mod Carried
 pub mod Records
+pub mod Selects

@@ -7,21 +7,32 @@ use mathlib.Core.Option.{Option, none, some}
 use mathlib.Core.List.{List, [], _∷_}
 use native.Mathlib.Omega.{arith}
 use lib.IntN.{ℤ, pos}
-use lib.ListN.{length, getD, replicate}
+use lib.ListN.{length, getD, replicate, length-map, List·getD-map}
 use Rattle.rules.specs.Piece.{Piece, Range, column, there, AllWellFormed, Within}
 use Rattle.rules.specs.Lists.{Width, Lent, lists}
 use Rattle.rules.specs.Runs.{says}
 use Rattle.rules.specs.Answer.{least}
+use Rattle.rules.specs.Merged.{Merged, lengths, lay}
 use Rattle.rules.specs.Sweep as rules
 use Rattle.rules.specs.Sweep.{events}
 use Rattle.rules.specs.Proving.Below.{nones}
 use Rattle.rules.specs.Proving.Moments.{moment}
+use Rattle.rules.specs.Refusals.{Formed}
+use Rattle.rules.specs.declared.Kind.{Kind}
+use Rattle.rules.proofs.Refusals.{lists-formed}
+use Rattle.rules.proofs.Same.{none≢some}
 use Rattle.rules.proofs.Sweep.{kind-small}
-use Rattle.active_lists.specs.Active.{nobody, has}
+use Rattle.many_way_rules.specs.declared.Admission.{Admission}
+use Rattle.many_way_rules.specs.declared.Pick.the-variants.{Highest}
+use Rattle.many_way_rules.specs.declared.Operation.the-variants.{Select}
+use Rattle.active_lists.specs.Active.{nobody, has, Numbers}
 use Rattle.active_lists.specs.Kept.{Active, Stands}
+use Rattle.active_lists.proofs.Sets.{number-present}
+use Rattle.active_lists.proofs.Stands.{stands-same}
+use Rattle.slots.proofs.Slots.{count-none}
 use Rattle.slots.specs.Stretch.{Stretch, NoStretch}
 use Rattle.multiway_sweep.specs.Front.{edge, apply, Front, Next}
-use Rattle.multiway_sweep.specs.Steps.{Reading, Arrays, On, sizes-after, Sweeping, Stepped}
+use Rattle.multiway_sweep.specs.Steps.{Arrays, reads, On, sizes-after, Sweeping, Stepped}
 use Rattle.multiway_sweep.specs.declared.Range.{Range as Span}
 use Rattle.multiway_sweep.specs.declared.Sizes.{Sizes}
 use Rattle.multiway_sweep.specs.declared.Step.{Step}
@@ -29,9 +40,11 @@ use Rattle.multiway_sweep.specs.declared.Step.the-variants.{Start, End, Done}
 use Rattle.multiway_sweep.proofs.Front.{front-first, front-length, front-column, front-last, front-take, front-list, front-point, front-starts, front-ends}
 use Rattle.multiway_pass.specs.Pieces.{waiting}
 use Rattle.multiway_pass.specs.Passes.{Puttable, PutPieces}
+use Rattle.multiway_sweep.proofs.Begun.{events-count}
+use Rattle.multiway_pass.proofs.Joins.{lists-few, join}
 use Rattle.multiway_pass.proofs.Walks.{Walk, Going, skipped, still-puttable, still-going, turn-silent, turn-apart, turn-puttable, turn-more}
 use Rattle.select_pass.specs.Stretches.{StretchesTo, StartsAfter}
-use Rattle.select_pass.specs.Selections.{Held, Carried, After, Recorded, Fits, taken}
+use Rattle.select_pass.specs.Selections.{Held, Carried, chosen, After, Recorded, Fits, taken}
 use Rattle.select_pass.specs.declared.StretchStart.{StretchStart}
 use Rattle.select_pass.specs.declared.StretchStart.the-variants.{At, Nowhere}
 use Rattle.select_pass.specs.declared.StretchBefore.{StretchBefore}
@@ -44,15 +57,177 @@ StartsFrom points ls act p (At s) = s ≡ p
 StartsFrom points ls act p Nowhere = (act ≡ nones ls) ⊎ (p ≡ points)
 
 -- what is left and what the lists have, with the points below p dealt with: n events are left, and the last one taken bears on no point below p
-pub record Selecting {P : Type 0} (w : Width P) (c : Reading P) (ls : List (List Range)) (a : Arrays) (z : Sizes) (current : List ℤ) (active : Active) (from : StretchStart) (n p : ℕ) : Type 0 where
-  pub formed : AllWellFormed (w .points) ls
+pub record Selecting {P : Type 0} (w : Width P) (l : Lent P) (a : Arrays) (z : Sizes) (current : List ℤ) (active : Active) (from : StretchStart) (n p : ℕ) : Type 0 where
+  pub formed : AllWellFormed (w .points) (lists w l)
   pub moment : ℕ
   pub low : moment ≤ 2 * p
   pub high : 2 * p ≤ moment + 1
   pub act : Held
   pub left : List (rules.Event ℤ)
-  pub front : Front ls moment left act
-  pub sweeping : Sweeping w c a z left
+  pub front : Front (lists w l) moment left act
+  pub sweeping : Sweeping w (reads l) a z left
   pub carried : Carried current active act
   pub counted : n ≡ length left
-  pub start : StartsFrom (w .points) ls act p from
+  pub start : StartsFrom (w .points) (lists w l) act p from
+
+-- a selection's walk, and its rule
+abbrev pub selection : {P : Type 0} → Width P → Admission → Lent P → Bool → Merged P → Walk ℤ ℤ (Merged P)
+selection w a l write c = join w (Select Highest a) l write c
+
+-- where no list has anything
+nones-length : (ls : List (List Range)) → length (nones ls) ≡ length ls
+nones-length ls = length-map ls (λ l. none)
+
+none-at : (ls : List (List Range)) (i : ℕ) → getD (nones ls) i none ≡ none
+none-at ls i = List·getD-map (λ l. none) ls i []
+
+nothing-at : (ls : List (List Range)) (i : ℕ) → has (nones ls) i ≡ false
+nothing-at ls i = ap there (none-at ls i)
+
+-- what holds of the event that a step took holds of x
+on-that : (Q : rules.Event ℤ → Type 0) (N : Type 0) (e : Step) {x : rules.Event ℤ} → On (λ v. v ≡ x) ⊥ e → On Q N e → Q x
+on-that Q N (Start r list v z) q h = subst Q q h
+on-that Q N (End key list z) q h = subst Q q h
+on-that Q N Done q h = absurd q
+
+module _ {P : Type 0} {w : Width P} {l : Lent P} {a : Arrays} {z : Sizes} {current : List ℤ} {active : Active} {from : StretchStart} {n p : ℕ} (g : Selecting w l a z current active from n p) where
+  abbrev ls : List (List Range)
+  ls = lists w l
+
+  -- a step took the first of the events that are left
+  pub record Taking (b : Arrays) (e : Step) : Type 0 where
+    pub event : rules.Event ℤ
+    pub rest : List (rules.Event ℤ)
+    pub is : g .left ≡ event ∷ rest
+    pub that : On (λ v. v ≡ event) ⊥ e
+    pub past : Sweeping w (reads l) b (sizes-after e z) rest
+    pub fits : Fits e (g .act)
+    pub changes : taken e (g .act) ≡ apply event (g .act)
+
+  pub taking : {b : Arrays} (e : Step) → Stepped w (reads l) a b (g .left) e → 0 < n → Taking b e
+  taking (Start r list v y) s h =
+      let k = s .1 in
+      let f = rw (k .1) at (g .front) in
+      record { event = rules.starts (r .start) list v; rest = k .0; is = k .1; that = refl; past = k .2; fits = (omega (arith, front-list (w .points) ls (g .formed) f, front-length (w .points) ls (g .formed) f), front-starts (w .points) ls (g .formed) f); changes = refl }
+  taking (End key list y) s h =
+      let k = s .1 in
+      let f = rw (k .1) at (g .front) in
+      record { event = rules.ends key list; rest = k .0; is = k .1; that = refl; past = k .2; fits = (omega (arith, front-list (w .points) ls (g .formed) f, front-length (w .points) ls (g .formed) f), ap there (front-ends (w .points) ls (g .formed) f .1)); changes = refl }
+  taking Done s h = absurd (omega (arith, g .counted, ap length (s .1)))
+
+  -- none is left
+  pub over : n ≡ 0 → NoStretch (w .points) ls p
+  over h q u m = go (g .left) refl
+    where
+      go : (es : List (rules.Event ℤ)) → g .left ≡ es → column ls q ≡ nones ls
+      go [] e = let f = rw e at (g .front) in front-column (w .points) ls (g .formed) f q (omega (arith, g .low)) tt ∙ front-last (w .points) ls (g .formed) f
+      go (x ∷ xs) e = absurd (omega (arith, g .counted, ap length e))
+
+  module _ {b : Arrays} {e : Step} (k : Taking b e) where
+    abbrev x : rules.Event ℤ
+    x = k .event
+
+    ahead : Front ls (g .moment) (x ∷ k .rest) (g .act)
+    ahead = rw (k .is) at (g .front)
+
+    upto : p ≤ edge x
+    upto = omega (arith, ahead .high .0, g .high, kind-small x)
+
+    inside : edge x ≤ w .points
+    inside = omega (arith, front-point (w .points) ls (g .formed) ahead, kind-small x)
+
+    -- up to it the lists have what is carried
+    same-on : (q : ℕ) → p ≤ q → q < edge x → column ls q ≡ g .act
+    same-on q u m = let s = kind-small x in front-column (w .points) ls (g .formed) ahead q (omega (arith, g .low)) (omega arith)
+
+    -- the stretch before it
+    module _ (y : Span) (t : StretchesTo e from (Of y)) where
+      bounds : (y .start ≡ p) × (y .start < edge x) × (y .end + 1 ≡ edge x)
+      bounds = let i = on-that (λ v. (y .start < edge v) × (y .end + 1 ≡ edge v)) ⊥ e (k .that) (t .1) in (rw (t .0) at (g .start), i .0, i .1)
+
+      stretch : Stretch (w .points) ls p (g .act) (y .start) (y .end)
+      stretch = let s = bounds in record { later = omega arith; order = omega arith; below = omega (arith, inside); gap = λ q u m. absurd (omega arith); on = λ q u m. same-on q (omega arith) (omega arith) }
+
+    -- there is none
+    silent : (rule : List (Option ℤ) → Option ℤ) → rule (nones ls) ≡ none → StretchesTo e from Nothing → (q : ℕ) → p ≤ q → q < edge x → says rule ls q ≡ none
+    silent rule r t q u m = ap rule (same-on q u m) ∙ go from refl (g .start)
+      where
+        go : (s : StretchStart) → from ≡ s → StartsFrom (w .points) ls (g .act) p s → rule (g .act) ≡ none
+        go (At s) h i = absurd (omega (arith, on-that (λ v. edge v ≤ s) (Unit {0}) e (k .that) (t s h)))
+        go Nowhere h (inl i) = ap rule i ∙ r
+        go Nowhere h (inr i) = absurd (omega (arith, inside))
+
+    -- what is done after it, and what is pending then
+    module _ (adm : Admission) (write : Bool) (first : Merged P) {d : Merged P} {waits : List Range} {place : ℕ} (i : Going (selection w adm l write first) d waits place p) where
+      pub emit-after : (s : StretchBefore) → StretchesTo e from s → After s waits
+      emit-after (Of y) t = turn-apart i (stretch y t)
+      emit-after Nothing t = tt
+
+      pub emit-puttable : (s : StretchBefore) → StretchesTo e from s → (r : Emitted) → Recorded (chosen adm (g .act)) s waits r → Puttable (w .points) (least (lengths d)) write place (waiting (r .done))
+      emit-puttable Nothing t r h = rw (h .0) (still-puttable i)
+      emit-puttable (Of y) t r h = go (chosen adm (g .act)) refl h
+        where
+          go : (o : Option ℤ) → chosen adm (g .act) ≡ o → Recorded o (Of y) waits r → Puttable (w .points) (least (lengths d)) write place (waiting (r .done))
+          go none u h = rw (h .0) (still-puttable i)
+          go (some v) u h = turn-puttable i (stretch y t) (h .2) refl refl u
+
+      module _ {d' : Merged P} {place' : ℕ} where
+        pub emit-going : (s : StretchBefore) → StretchesTo e from s → (r : Emitted) → Recorded (chosen adm (g .act)) s waits r → PutPieces (lay w) write place (waiting (r .done)) d d' place' → Going (selection w adm l write first) d' (waiting (r .pending)) place' (edge x)
+        emit-going Nothing t r h u = rw (h .1) (skipped (still-going i (rw (h .0) at u)) (edge x) upto inside (silent (chosen adm) (i .ok .nothing) t))
+        emit-going (Of y) t r h u = subst (Going (selection w adm l write first) d' (waiting (r .pending)) place') (bounds y t .2) (go (chosen adm (g .act)) refl h)
+          where
+            go : (o : Option ℤ) → chosen adm (g .act) ≡ o → Recorded o (Of y) waits r → Going (selection w adm l write first) d' (waiting (r .pending)) place' (y .end + 1)
+            go none v h = rw (h .1) (turn-silent (still-going i (rw (h .0) at u)) (stretch y t) v)
+            go (some b) v h = rw (h .1) (turn-more i (stretch y t) (h .2) refl refl v u)
+
+    -- it is taken: the next stretch starts where it bears on the lists
+    module _ {current' : List ℤ} {active' : Active} (h : Carried current' active' (taken e (g .act))) (m greatest : ℕ) (counts : Numbers (Stands active') m) (last : greatest + 1 ≡ w .points) where
+      carried : Carried current' active' (apply x (g .act))
+      carried = rw (sym (k .changes)) h
+
+      took : Front ls (moment x) (k .rest) (apply x (g .act))
+      took = front-take (w .points) ls (g .formed) ahead
+
+      idle : m ≡ 0 → apply x (g .act) ≡ nones ls
+      idle u = count-none (apply x (g .act)) ls (front-length (w .points) ls (g .formed) took) (omega (arith, counts (has (apply x (g .act))) (carried .stands), number-present (apply x (g .act)) (carried .few)))
+
+      starts-from : (s : StretchStart) → StartsAfter e m greatest s → StartsFrom (w .points) ls (apply x (g .act)) (edge x) s
+      starts-from (At s) t = on-that (λ v. s ≡ edge v) ⊥ e (k .that) t
+      starts-from Nowhere (inl t) = inl (idle t)
+      starts-from Nowhere (inr t) = inr (omega (arith, inside, on-that (λ v. greatest < edge v) (Unit {0}) e (k .that) t))
+
+      pub next : (s : StretchStart) → StartsAfter e m greatest s → Selecting w l b (sizes-after e z) current' active' s (n - 1) (edge x)
+      next s t =
+          let v = kind-small x in
+          record {
+            formed = g .formed;
+            moment = moment x;
+            low = omega arith;
+            high = omega arith;
+            act = apply x (g .act);
+            left = k .rest;
+            front = took;
+            sweeping = k .past;
+            carried = carried;
+            counted = omega (arith, g .counted, ap length (k .is));
+            start = starts-from s t;
+          }
+
+-- before the first event
+pub selecting-first : {P : Type 0} (w : Width P) {k : Kind} {l : Lent P} → Formed w k l → {a : Arrays} {z : Sizes} → Sweeping w (reads l) a z (events (lists w l)) → {active : Active} → Stands active nobody → Selecting w l a z (replicate 16 (pos 0)) active Nowhere (2 * length (l .starts)) 0
+selecting-first w {l = l} f s h =
+    let ls = lists w l in
+    let few = lists-few f in
+    record {
+      formed = lists-formed f;
+      moment = 0;
+      low = omega arith;
+      high = omega arith;
+      act = nones ls;
+      left = events ls;
+      front = front-first (w .points) ls (lists-formed f);
+      sweeping = s;
+      carried = record { few = omega (arith, nones-length ls); long = refl; stands = stands-same h (λ i v. sym (nothing-at ls i)); values = λ i v e. absurd (none≢some v (sym (none-at ls i) ∙ e)) };
+      counted = sym (events-count f);
+      start = inl refl;
+    }
