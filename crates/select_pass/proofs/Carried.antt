@@ -73,9 +73,9 @@ module _ {current : List ℤ} {active : Active} {act : Held} (k : Carried curren
           values = λ i w e.
               elim (ℕ-discrete i list) [
                 | yes p ↦
-                  let m : getD (set act list (some v)) list none ≡ some v = getD-set-same act list (some v) none l in
-                  let n : v ≡ w = cc in
-                  rw p (getD-set-same current list u (pos 0) (omega (arith, k .few, k .long)) ∙ q ∙ n)
+                    let m : getD (set act list (some v)) list none ≡ some v = getD-set-same act list (some v) none l in
+                    let n : v ≡ w = cc in
+                    rw p (getD-set-same current list u (pos 0) (omega (arith, k .few, k .long)) ∙ q ∙ n)
                 | no n ↦ getD-set-other current list i u (pos 0) n ∙ k .values i w (sym (getD-set-other act list i (some v) none n) ∙ e)
               ];
         }
@@ -90,9 +90,9 @@ module _ {current : List ℤ} {active : Active} {act : Held} (k : Carried curren
           values = λ i w e.
               elim (ℕ-discrete i list) [
                 | yes p ↦
-                  let m : getD (set act list none) list none ≡ none = getD-set-same act list none none l in
-                  let z : _≡_ {A = ℕ} 0 1 = cc in
-                  absurd (omega arith)
+                    let m : getD (set act list none) list none ≡ none = getD-set-same act list none none l in
+                    let z : _≡_ {A = ℕ} 0 1 = cc in
+                    absurd (omega arith)
                 | no n ↦ k .values i w (sym (getD-set-other act list i none none n) ∙ e)
               ];
         }

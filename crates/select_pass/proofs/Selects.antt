@@ -19,6 +19,7 @@ use Rattle.rules.specs.Proving.Below.{nones}
 use Rattle.rules.specs.Proving.Moments.{moment}
 use Rattle.rules.specs.Refusals.{Formed}
 use Rattle.rules.specs.declared.Kind.{Kind}
+use Rattle.rules.proofs.Columns.{lists-length}
 use Rattle.rules.proofs.Refusals.{lists-formed}
 use Rattle.rules.proofs.Same.{none≢some}
 use Rattle.rules.proofs.Sweep.{kind-small}
@@ -32,6 +33,7 @@ use Rattle.active_lists.proofs.Stands.{stands-same}
 use Rattle.slots.proofs.Slots.{count-none}
 use Rattle.slots.specs.Stretch.{Stretch, NoStretch}
 use Rattle.multiway_sweep.specs.Front.{edge, apply, Front, Next}
+use Rattle.multiway_sweep.specs.Begins.{Fills}
 use Rattle.multiway_sweep.specs.Steps.{Arrays, reads, On, sizes-after, Sweeping, Stepped}
 use Rattle.multiway_sweep.specs.declared.Range.{Range as Span}
 use Rattle.multiway_sweep.specs.declared.Sizes.{Sizes}
@@ -40,7 +42,7 @@ use Rattle.multiway_sweep.specs.declared.Step.the-variants.{Start, End, Done}
 use Rattle.multiway_sweep.proofs.Front.{front-first, front-length, front-column, front-last, front-take, front-list, front-point, front-starts, front-ends}
 use Rattle.multiway_pass.specs.Pieces.{waiting}
 use Rattle.multiway_pass.specs.Passes.{Puttable, PutPieces}
-use Rattle.multiway_sweep.proofs.Begun.{events-count}
+use Rattle.multiway_sweep.proofs.Begun.{events-count, begun}
 use Rattle.multiway_pass.proofs.Joins.{lists-few, join}
 use Rattle.multiway_pass.proofs.Walks.{Walk, Going, skipped, still-puttable, still-going, turn-silent, turn-apart, turn-puttable, turn-more}
 use Rattle.select_pass.specs.Stretches.{StretchesTo, StartsAfter}
@@ -93,6 +95,10 @@ on-that Q N Done q h = absurd q
 module _ {P : Type 0} {w : Width P} {l : Lent P} {a : Arrays} {z : Sizes} {current : List ℤ} {active : Active} {from : StretchStart} {n p : ℕ} (g : Selecting w l a z current active from n p) where
   abbrev ls : List (List Range)
   ls = lists w l
+
+  -- so many lists are lent
+  pub held-length : length (g .act) ≡ length (l .counts)
+  held-length = front-length (w .points) ls (g .formed) (g .front) ∙ lists-length w l
 
   -- a step took the first of the events that are left
   pub record Taking (b : Arrays) (e : Step) : Type 0 where
@@ -196,8 +202,8 @@ module _ {P : Type 0} {w : Width P} {l : Lent P} {a : Arrays} {z : Sizes} {curre
       starts-from Nowhere (inl t) = inl (idle t)
       starts-from Nowhere (inr t) = inr (omega (arith, inside, on-that (λ v. greatest < edge v) (Unit {0}) e (k .that) t))
 
-      pub next : (s : StretchStart) → StartsAfter e m greatest s → Selecting w l b (sizes-after e z) current' active' s (n - 1) (edge x)
-      next s t =
+      pub next : (s : StretchStart) → StartsAfter e m greatest s → {y : Sizes} → y ≡ sizes-after e z → Selecting w l b y current' active' s (n - 1) (edge x)
+      next s t q =
           let v = kind-small x in
           record {
             formed = g .formed;
@@ -207,14 +213,14 @@ module _ {P : Type 0} {w : Width P} {l : Lent P} {a : Arrays} {z : Sizes} {curre
             act = apply x (g .act);
             left = k .rest;
             front = took;
-            sweeping = k .past;
+            sweeping = rw q (k .past);
             carried = carried;
             counted = omega (arith, g .counted, ap length (k .is));
             start = starts-from s t;
           }
 
 -- before the first event
-pub selecting-first : {P : Type 0} (w : Width P) {k : Kind} {l : Lent P} → Formed w k l → {a : Arrays} {z : Sizes} → Sweeping w (reads l) a z (events (lists w l)) → {active : Active} → Stands active nobody → Selecting w l a z (replicate 16 (pos 0)) active Nowhere (2 * length (l .starts)) 0
+pub selecting-first : {P : Type 0} (w : Width P) {k : Kind} {l : Lent P} → Formed w k l → {cursors start-keys start-lists : List ℕ} {z : Sizes} → Fills w (l .starts) (l .counts) cursors start-keys start-lists z → {active : Active} → Stands active nobody → let zeros = replicate {A = ℕ} 16 0 in Selecting w l (record { cursors = cursors; start-keys = start-keys; start-lists = start-lists; end-keys = zeros; end-lists = zeros }) z (replicate 16 (pos 0)) active Nowhere (2 * length (l .starts)) 0
 selecting-first w {l = l} f s h =
     let ls = lists w l in
     let few = lists-few f in
@@ -226,7 +232,7 @@ selecting-first w {l = l} f s h =
       act = nones ls;
       left = events ls;
       front = front-first (w .points) ls (lists-formed f);
-      sweeping = s;
+      sweeping = begun f (s _ _ (record { keys = refl; lists = refl }));
       carried = record { few = omega (arith, nones-length ls); long = refl; stands = stands-same h (λ i v. sym (nothing-at ls i)); values = λ i v e. absurd (none≢some v (sym (none-at ls i) ∙ e)) };
       counted = sym (events-count f);
       start = inl refl;

@@ -92,7 +92,12 @@ fn keeps(admission: Admission, lists: usize, active: &Active) -> bool
 }
 
 // What a selection says of a stretch: the value of the highest active list, where it is admitted.
-fn highest_value(admission: Admission, lists: usize, current: &[i32; 16], active: &mut Active) -> Ruling
+fn highest_value(
+    admission: Admission,
+    lists: usize,
+    current: &[i32; 16],
+    active: &mut Active,
+) -> Ruling
     requires { ⌜ Known (carried current active) lists ⌝ }
     ensures { λ r. ⌜ Says admission lists (carried-before current active) (carried-after current active) r ⌝ }
 {
