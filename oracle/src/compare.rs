@@ -84,9 +84,7 @@ fn run_width<T: Proved>(plan: Plan) -> Result<u64, String> {
                 let call = text::call_lines(&case.call);
                 format!("a difference in {at}\n\n{call}\n{difference}")
             })?;
-            if let Some(code) = code {
-                proved.count(case.call.operation, code);
-            }
+            proved.count(case.call.operation, code);
             count += 1;
         }
         println!("{width} {name}: {count} cases, by the library {proved}");
@@ -127,14 +125,12 @@ fn parts<T: Point>(plan: Plan) -> Vec<Part<T>> {
 }
 
 /// Holds the library, and the outcome that is due for a case, against the reading. Tells the code
-/// of the library, where it has the operation.
-fn check<T: Proved>(case: &Case<T>) -> Result<Option<u8>, String> {
+/// of the library.
+fn check<T: Proved>(case: &Case<T>) -> Result<u8, String> {
     let call = &case.call;
     let read = guarded("reading", || reading::outcome(call))?;
     let proved = rattle_side::outcome(call);
-    if let Some(proved) = &proved {
-        agree("library", proved, &read)?;
-    }
+    agree("library", &proved, &read)?;
     match &case.due {
         Due::TheCrate => agree("crate", &guarded("crate", || blaze_side::outcome(call))?, &read),
         Due::Refused(answer) => {
@@ -149,7 +145,7 @@ fn check<T: Proved>(case: &Case<T>) -> Result<Option<u8>, String> {
             agree("crate", &blaze_side::outcome(call), &read)
         }
     }?;
-    Ok(proved.map(|outcome| outcome.answer.code))
+    Ok(proved.answer.code)
 }
 
 fn agree<T: Point>(name: &str, due: &Outcome<T>, read: &Outcome<T>) -> Result<(), String> {

@@ -64,16 +64,37 @@ type Join<T> = unsafe extern "C" fn(
     *mut u64,
 ) -> u8;
 
+type Selection<T> = unsafe extern "C" fn(
+    *const T,
+    usize,
+    *const T,
+    usize,
+    *const i32,
+    usize,
+    *const u32,
+    usize,
+    *mut T,
+    usize,
+    *mut T,
+    usize,
+    *mut i64,
+    usize,
+    *mut u64,
+) -> u8;
+
 /// The functions of one width: the event listing, two-way inner, left and full, many-way inner
-/// and full.
+/// and full, union and symmetric difference.
 pub trait Proved: Point {
     const LISTING: Listing<Self>;
     const TWO_WAY: [TwoWay<Self>; 3];
     const JOINS: [Join<Self>; 2];
+    const SELECTIONS: [Selection<Self>; 2];
 }
 
 macro_rules! proved {
-    ($point:ty, $listing:ident, [$($two_way:ident),*], [$($join:ident),*]) => {
+    (
+        $point:ty, $listing:ident, [$($two_way:ident),*], [$($join:ident),*], [$($selection:ident),*]
+    ) => {
         unsafe extern "C" {
             fn $listing(
                 starts: *const $point, starts_len: usize, ends: *const $point, ends_len: usize,
@@ -96,12 +117,19 @@ macro_rules! proved {
                 out_start: *mut $point, out_start_len: usize, out_end: *mut $point, out_end_len: usize,
                 out_value: *mut i64, out_value_len: usize, number: *mut u64,
             ) -> u8;)*
+            $(fn $selection(
+                starts: *const $point, starts_len: usize, ends: *const $point, ends_len: usize,
+                values: *const i32, values_len: usize, counts: *const u32, counts_len: usize,
+                out_start: *mut $point, out_start_len: usize, out_end: *mut $point, out_end_len: usize,
+                out_value: *mut i64, out_value_len: usize, number: *mut u64,
+            ) -> u8;)*
         }
 
         impl Proved for $point {
             const LISTING: Listing<Self> = $listing;
             const TWO_WAY: [TwoWay<Self>; 3] = [$($two_way),*];
             const JOINS: [Join<Self>; 2] = [$($join),*];
+            const SELECTIONS: [Selection<Self>; 2] = [$($selection),*];
         }
     };
 }
@@ -110,20 +138,22 @@ proved!(
     u32,
     guineatwirl_seat_list_events,
     [guineatwirl_seat_inner_join, guineatwirl_seat_left_join, guineatwirl_seat_full_join],
-    [guineatwirl_seat_multiway_inner_join, guineatwirl_seat_multiway_full_join]
+    [guineatwirl_seat_multiway_inner_join, guineatwirl_seat_multiway_full_join],
+    [guineatwirl_seat_multiway_union, guineatwirl_seat_multiway_symmetric_difference]
 );
 proved!(
     i64,
     guineatwirl_instant_list_events,
     [guineatwirl_instant_inner_join, guineatwirl_instant_left_join, guineatwirl_instant_full_join],
-    [guineatwirl_instant_multiway_inner_join, guineatwirl_instant_multiway_full_join]
+    [guineatwirl_instant_multiway_inner_join, guineatwirl_instant_multiway_full_join],
+    [guineatwirl_instant_multiway_union, guineatwirl_instant_multiway_symmetric_difference]
 );
 
-/// The outcome of a call, or none where the library does not have the operation yet.
-pub fn outcome<T: Proved>(call: &Call<T>) -> Option<Outcome<T>> {
+/// The outcome of a call.
+pub fn outcome<T: Proved>(call: &Call<T>) -> Outcome<T> {
     let mut columns = call.columns.clone();
-    let answer = answer(call.operation, &call.lent, &mut columns)?;
-    Some(Outcome { answer, columns })
+    let answer = answer(call.operation, &call.lent, &mut columns);
+    Outcome { answer, columns }
 }
 
 /// Writes into the columns, and answers.
@@ -131,15 +161,16 @@ pub fn answer<T: Proved>(
     operation: Operation,
     lent: &Lent<T>,
     columns: &mut Columns<T>,
-) -> Option<Answer> {
+) -> Answer {
     match operation {
-        Operation::Events => Some(listing(T::LISTING, lent, columns)),
-        Operation::TwoWayInner => Some(two_way(T::TWO_WAY[0], lent, columns)),
-        Operation::TwoWayLeft => Some(two_way(T::TWO_WAY[1], lent, columns)),
-        Operation::TwoWayFull => Some(two_way(T::TWO_WAY[2], lent, columns)),
-        Operation::Inner(combiner) => Some(join(T::JOINS[0], combiner, lent, columns)),
-        Operation::Full(combiner) => Some(join(T::JOINS[1], combiner, lent, columns)),
-        Operation::Union | Operation::SymmetricDifference => None,
+        Operation::Events => listing(T::LISTING, lent, columns),
+        Operation::TwoWayInner => two_way(T::TWO_WAY[0], lent, columns),
+        Operation::TwoWayLeft => two_way(T::TWO_WAY[1], lent, columns),
+        Operation::TwoWayFull => two_way(T::TWO_WAY[2], lent, columns),
+        Operation::Inner(combiner) => join(T::JOINS[0], combiner, lent, columns),
+        Operation::Full(combiner) => join(T::JOINS[1], combiner, lent, columns),
+        Operation::Union => selection(T::SELECTIONS[0], lent, columns),
+        Operation::SymmetricDifference => selection(T::SELECTIONS[1], lent, columns),
     }
 }
 
@@ -219,6 +250,38 @@ fn join<T: Proved>(
     let code = unsafe {
         function(
             combiner,
+            lent.starts.as_ptr(),
+            lent.starts.len(),
+            lent.ends.as_ptr(),
+            lent.ends.len(),
+            lent.values.as_ptr(),
+            lent.values.len(),
+            lent.counts.as_ptr(),
+            lent.counts.len(),
+            starts.as_mut_ptr(),
+            starts.len(),
+            ends.as_mut_ptr(),
+            ends.len(),
+            values.as_mut_ptr(),
+            values.len(),
+            &mut number,
+        )
+    };
+    Answer { code, number }
+}
+
+fn selection<T: Proved>(
+    function: Selection<T>,
+    lent: &Lent<T>,
+    columns: &mut Columns<T>,
+) -> Answer {
+    let Columns::Priced { starts, ends, values } = columns else {
+        panic!("the columns are another operation's");
+    };
+    let mut number = 0;
+    // Sound: each pointer goes with the length of the vector that it points into.
+    let code = unsafe {
+        function(
             lent.starts.as_ptr(),
             lent.starts.len(),
             lent.ends.as_ptr(),

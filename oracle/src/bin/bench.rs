@@ -38,12 +38,14 @@ fn main() {
     for ranges in [MOST_RANGES / 8, MOST_RANGES / 4, MOST_RANGES / 2] {
         joins.extend(rows(&[Operation::Full(1)], &[4], ranges));
     }
-    println!("{}", summary(&two_way, &listing, &joins));
+    let selections = [Operation::Union, Operation::SymmetricDifference];
+    let selections = rows(&selections, &[2, 4, 16], MOST_RANGES);
+    println!("{}", summary(&two_way, &listing, &joins, &selections));
     println!(
         "| operation | lists | ranges | strewn | crate | library | counted | library / crate | counted / crate |"
     );
     println!("|---|---|---|---|---|---|---|---|---|");
-    for row in two_way.iter().chain(&listing).chain(&joins) {
+    for row in two_way.iter().chain(&listing).chain(&joins).chain(&selections) {
         println!("{}", line(row));
     }
 }
@@ -65,7 +67,7 @@ fn measured(operation: Operation, strewn: &'static str, lent: &Lent<i64>) -> Row
     let mut roomy = columns(operation, 2 * MOST_RANGES);
     let by_crate = best(ranges, || blaze_side::drain(operation, lent, &mut roomy));
     let by_library = best(ranges, || rattle_side::answer(operation, lent, &mut roomy));
-    let written = rattle_side::answer(operation, lent, &mut roomy).expect("in the library");
+    let written = rattle_side::answer(operation, lent, &mut roomy);
     let mut tight = columns(operation, written.number as usize);
     let counted = (operation != Operation::Events)
         .then(|| best(ranges, || rattle_side::answer(operation, lent, &mut tight)));
@@ -83,6 +85,8 @@ fn title(operation: Operation) -> &'static str {
         Operation::Inner(2) => "many-way inner, largest",
         Operation::Full(1) => "many-way full, sum",
         Operation::Full(2) => "many-way full, largest",
+        Operation::Union => "union",
+        Operation::SymmetricDifference => "symmetric difference",
         _ => unreachable!("not measured"),
     }
 }
@@ -101,7 +105,7 @@ fn line(row: &Row) -> String {
 }
 
 /// The ratios of each kind of operation, what a counting pass costs, and what grows.
-fn summary(two_way: &[Row], listing: &[Row], joins: &[Row]) -> String {
+fn summary(two_way: &[Row], listing: &[Row], joins: &[Row], selections: &[Row]) -> String {
     let whole = |rows: &[Row]| span(rows.iter().map(|row| row.by_library / row.by_crate));
     let counted =
         |rows: &[Row]| span(rows.iter().filter_map(|row| Some(row.counted? / row.by_crate)));
@@ -113,8 +117,10 @@ fn summary(two_way: &[Row], listing: &[Row], joins: &[Row]) -> String {
         "- Two-way joins take {} of the crate's time, with a counting pass {}.\n\
          - The event listing takes {} of the crate's time: {} million events a second, the crate {}.\n\
          - Many-way joins take {} of the crate's time, with a counting pass {}.\n\
-         - With a counting pass two-way joins take {} times as long as without, many-way joins {} times.\n\
-         - From 2 to 16 lists the cost of a range in a many-way join grows {} times, from 256 to 2,048 ranges {} times.\n",
+         - Selections take {} of the crate's time, with a counting pass {}.\n\
+         - With a counting pass two-way joins take {} times as long as without, many-way joins {} times, selections {} times.\n\
+         - From 2 to 16 lists the cost of a range in a many-way join grows {} times, in a selection {} times; from 256 to \
+         2,048 ranges in a many-way join {} times.\n",
         whole(two_way),
         counted(two_way),
         whole(listing),
@@ -122,16 +128,20 @@ fn summary(two_way: &[Row], listing: &[Row], joins: &[Row]) -> String {
         events(|row| row.by_crate),
         whole(joins),
         counted(joins),
+        whole(selections),
+        counted(selections),
         counting(two_way),
         counting(joins),
+        counting(selections),
         growth(joins, (2, MOST_RANGES), (16, MOST_RANGES)),
+        growth(selections, (2, MOST_RANGES), (16, MOST_RANGES)),
         growth(joins, (4, MOST_RANGES / 8), (4, MOST_RANGES)),
     )
 }
 
-/// How the cost for each range grows from the joins of so many lists and ranges to their like.
-fn growth(joins: &[Row], from: (u64, usize), to: (u64, usize)) -> String {
-    let of = |size| joins.iter().filter(move |row| (row.lists, row.ranges) == size);
+/// How the cost for each range grows from the rows of so many lists and ranges to their like.
+fn growth(rows: &[Row], from: (u64, usize), to: (u64, usize)) -> String {
+    let of = |size| rows.iter().filter(move |row| (row.lists, row.ranges) == size);
     let alike = |a: &Row, b: &Row| a.title == b.title && a.strewn == b.strewn;
     let factor =
         |row: &Row| Some(of(to).find(|other| alike(other, row))?.by_library / row.by_library);
