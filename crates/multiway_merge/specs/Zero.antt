@@ -1,4 +1,4 @@
--- The outcome of a join over zero lists that the form checker passed. Assumes nothing.
+-- The outcome of an operation over zero lists that the form checker passed. Assumes nothing.
 use mathlib.Core.List.{[]}
 use lib.ListN.{length}
 use Rattle.rules.specs.Lists.{Width}
