@@ -1,4 +1,4 @@
--- What holds of two calls that were done, from their contracts: they wrote the same pieces exactly when their rules admit the same points with the same values, and cutting a range in two changes nothing that is written. Assumes nothing.
+-- What holds of two calls that were done, joins and selections alike, from their contracts: they wrote the same pieces exactly when their rules admit the same points with the same values, and cutting a range in two changes nothing that is written. Assumes nothing.
 use Prim.Native.Nat.{ℕ, _+_, _≤_, _<_}
 use mathlib.Core.Path.{_≡_, refl, sym, ap, _∙_}
 use mathlib.Core.Logic.{_↔_}
@@ -17,7 +17,7 @@ use Rattle.rules.specs.declared.Judgement.{Judgement}
 use Rattle.rules.specs.declared.Judgement.the-variants.{Sound, Refused}
 use Rattle.rules.proofs.At.{within-le}
 use Rattle.rules.proofs.Refusals.{given, done-writes, refused-early, sound-formed, lists-formed}
-use Rattle.many_way_rules.specs.Operations.{kind-of, rule-of, merged}
+use Rattle.many_way_rules.specs.Operations.{full, union, kind-of, rule-of, merged}
 use Rattle.many_way_rules.specs.Outcomes.{merging}
 use Rattle.many_way_rules.specs.declared.Operation.{Operation}
 use Rattle.many_way_rules.proofs.Condition3.{halves, merged-right, merged-same, merged-cut}
@@ -95,12 +95,16 @@ module _ {P : Type 0} {Fits : P → Type 0} {w : Width P} (f : Faithful w Fits) 
     ascending : Within 0 (w .points) pieces
     ascending = merged-right (w .points) o (lists w l) formed .ascending
 
-  -- whatever the operations, combiners, lists and list counts
+  -- whatever the operations, joins or selections, their combiners, lists and list counts
   module _ {o o' : Operation} {l l' : Lent P} {c d c' d' : Merged P} {n n' : ℕ} (k : Call o l c d n) (k' : Call o' l' c' d' n') where
     pub calls-same : (written n d ≡ written n' d') ↔ ((p : ℕ) → p < w .points → rule-of o (column (lists w l) p) ≡ rule-of o' (column (lists w l') p))
     calls-same =
         let same = merged-same (w .points) o (lists w l) (formed k) o' (lists w l') (formed k') in
         (λ e. same .0 (rows-same 0 0 (pieces k) (pieces k') (ascending k) (ascending k') (sym (rows-are k) ∙ e ∙ rows-are k')), λ e. rows-are k ∙ ap rows (same .1 e) ∙ sym (rows-are k'))
+
+  -- so a union writes what a full join does where the combiner gives the highest list's value at every point
+  pub union-is-full : {combiner : ℕ} {l l' : Lent P} {c d c' d' : Merged P} {n n' : ℕ} → Call union l c d n → Call (full combiner) l' c' d' n' → ((p : ℕ) → p < w .points → rule-of union (column (lists w l) p) ≡ rule-of (full combiner) (column (lists w l') p)) → written n d ≡ written n' d'
+  union-is-full k k' = calls-same k k' .1
 
   -- the list that is cut stands above some lists and below others; its range x, cut after its point m, stands between xs and ys
   module _ (x : Range) (m : ℕ) (low : x .start ≤ m) (high : m < x .end) (xs ys : List Range) (below above : List (List Range)) where

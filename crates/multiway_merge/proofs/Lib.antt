@@ -1,3 +1,3 @@
--- The laws of many-way joins and selections: what is said of no lists, and from the form checker's judgement to the outcome.
-pub mod Zero
+-- The laws of many-way joins and selections: selections among the operations, and from the form checker's judgement to the outcome.
+pub mod Operations
 pub mod Outcomes

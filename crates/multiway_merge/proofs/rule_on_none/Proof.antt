@@ -1,6 +1,6 @@
 -- `multiway_merge::rule_on_none` meets its contract. Assumes nothing.
 use borrow.Author.Needs.{needs}
-use Rattle.multiway_merge.proofs.Zero.{selects-nothing}
+use Rattle.multiway_merge.proofs.Operations.{selects-nothing}
 use Rattle.multiway_merge.proofs.rule_on_none.Statement.{statement}
 use Rattle.multiway_merge.proofs.rule_on_none.Tie as tie
 
