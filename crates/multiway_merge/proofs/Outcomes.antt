@@ -8,10 +8,10 @@ use native.Mathlib.Omega.{arith}
 use lib.Dec.{leb}
 use lib.IntN.{ℤ, pos}
 use lib.ListN.{length, getD}
-use borrow.Author.Tests.{le-leb, lt-leb, leb-true}
+use borrow.Author.Tests.{le-leb, lt-leb}
 use Rattle.rules.specs.Piece.{Range}
 use Rattle.rules.specs.Lists.{Width, Lent, keys, cut, lists}
-use Rattle.rules.specs.Answer.{judge, leaves}
+use Rattle.rules.specs.Answer.{leaves}
 use Rattle.rules.specs.Refusals.{Formed}
 use Rattle.rules.specs.Same.{eqℤ}
 use Rattle.rules.specs.Merged.{Merged, lengths, room, lay}
