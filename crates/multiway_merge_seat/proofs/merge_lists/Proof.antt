@@ -3,19 +3,18 @@ use mathlib.Core.Bool.{cond}
 use native.Mathlib.Omega.{arith}
 use borrow.Author.Needs.{needs}
 use Rattle.rules.specs.Lists.{seats}
-use Rattle.many_way_rules.specs.declared.Operation.the-variants.{Join}
 use Rattle.multiway_merge.proofs.Outcomes.{refused, merged-none, Turns, turns-first, turns-joinable, turns-long, turns-answered, turns-again}
 use Rattle.multiway_merge_seat.proofs.merge_lists.Statement.{statement}
 use Rattle.multiway_merge_seat.proofs.merge_lists.Tie as tie
 
 abbrev Inv-loop : tie.InvT-loop
-Inv-loop admission combiner starts ends values counts out-start₀ out-end₀ out-value₀ room sure₀ out-start out-end out-value sure =
-    Turns seats (Join admission combiner) (record { starts = starts; ends = ends; values = values; counts = counts }) room
+Inv-loop operation starts ends values counts out-start₀ out-end₀ out-value₀ room sure₀ out-start out-end out-value sure =
+    Turns seats operation (record { starts = starts; ends = ends; values = values; counts = counts }) room
     (record { start = out-start₀; end = out-end₀; value = out-value₀ })
     (record { start = out-start; end = out-end; value = out-value }) sure
 
 abbrev μ-loop : tie.MeasureT-loop
-μ-loop admission combiner starts ends values counts out-start₀ out-end₀ out-value₀ room sure₀ out-start out-end out-value sure = cond sure 0 1
+μ-loop operation starts ends values counts out-start₀ out-end₀ out-value₀ room sure₀ out-start out-end out-value sure = cond sure 0 1
 
 -- the places that the answers cite: what is lent is judged, nothing is refused, a pass is made, and it is known what it settles
 abbrev Judged : Type 0
