@@ -19,4 +19,3 @@ pub mod Events
 pub mod TwoWay
 pub mod Meets
 pub mod Room
-pub mod Passes

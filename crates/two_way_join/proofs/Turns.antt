@@ -1,11 +1,9 @@
 -- From the judgement of what is lent and the passes to the outcome of a two-way join. Assumes nothing.
-use Prim.Native.Nat.{ℕ, _-_, _*_, _≤_, _<_}
+use Prim.Native.Nat.{ℕ, _-_, _*_}
 use mathlib.Core.Path.{_≡_, refl, sym, ap, _∙_}
 use mathlib.Core.Bool.{Bool, true, false}
 use native.Mathlib.Omega.{arith}
-use native.Mathlib.Nat.{le-trans}
 use lib.Dec.{leb}
-use borrow.Author.Tests.{leb-true}
 use lib.ListN.{length}
 use Rattle.form.specs.Shape.{Judged}
 use Rattle.rules.specs.Lists.{Width, Lent}
@@ -16,11 +14,13 @@ use Rattle.rules.specs.Refusals.{Formed}
 use Rattle.rules.specs.Proving.Long.{Long}
 use Rattle.rules.specs.declared.Pairing.{Pairing}
 use Rattle.rules.specs.declared.Answer.{Answer}
-use Rattle.rules.specs.declared.Answer.the-variants.{Done, NoRoom}
 use Rattle.rules.specs.declared.Judgement.{Judgement}
 use Rattle.rules.specs.declared.Judgement.the-variants.{Sound, Refused}
 use Rattle.rules.specs.declared.Kind.the-variants.{TwoWay}
-use Rattle.rules.proofs.Passes.{Turn, settled-done, settled-not, turn-again}
+use Rattle.passes.specs.Settled.{settled}
+use Rattle.passes.specs.declared.Settled.{Settled}
+use Rattle.passes.specs.declared.Settled.the-variants.{Answered, Again}
+use Rattle.passes.proofs.Turns.{Turn, turn-first, turn-answered, turn-again}
 use Rattle.two_way_pass.specs.Pairs.{pairs}
 use Rattle.two_way_pass.specs.Columns.{lays, Roomy, Passed}
 use Rattle.two_way_pass.proofs.Laying.{lays-long}
@@ -30,8 +30,7 @@ use Rattle.two_way_pass.proofs.Lists.{pairs-upto}
 pub record Turns {P : Type 0} (w : Width P) (o : Pairing) (l : Lent P) (space : ℕ) (c d : Paired P) (write : Bool) : Type 0 where
   pub sound : judge w TwoWay l ≡ Sound
   pub formed : Formed w TwoWay l
-  pub space-is : space ≡ room c
-  pub turn : Turn (length (pairs w o l)) (room c) c d write
+  pub turn : Turn (length (pairs w o l)) (room c) space c d write
 
 module _ {P : Type 0} {w : Width P} {l : Lent P} {r : Judgement} (j : Judged w TwoWay l r) where
   -- what is refused leaves the columns
@@ -41,13 +40,7 @@ module _ {P : Type 0} {w : Width P} {l : Lent P} {r : Judgement} (j : Judged w T
 
   -- the first pass writes where there is room for as many pieces as there can be
   pub turns-first : r ≡ Sound → {most : ℕ} → most ≡ 2 * length (l .starts) - 1 → (o : Pairing) {c : Paired P} {space : ℕ} → space ≡ room c → Turns w o l space c c (leb most space)
-  turns-first s {most} e o {c} {space} q =
-      record {
-        sound = sym (j .is) ∙ s;
-        formed = j .passes s;
-        space-is = q;
-        turn = record { kept = refl; enough = λ h. le-trans (pairs-upto (j .passes s) o) (omega (arith, leb-true most space h)) };
-      }
+  turns-first s e o q = record { sound = sym (j .is) ∙ s; formed = j .passes s; turn = turn-first (omega (arith, e, pairs-upto (j .passes s) o)) q }
 
 module _ {P : Type 0} {w : Width P} {o : Pairing} {l : Lent P} {space : ℕ} {c d : Paired P} {write : Bool} (i : Turns w o l space c d write) where
   pub turns-room : Roomy w o l write d
@@ -68,13 +61,9 @@ module _ {P : Type 0} {w : Width P} {o : Pairing} {l : Lent P} {space : ℕ} {c 
         let q : d' ≡ done write c = p .laid ∙ ap (done write) (i .turn .kept) in
         rw q (lays-long w (l .values) 0 c write (pairs w o l) (λ e. omega (arith, i .turn .enough e)))
 
-    pub turns-done : write ≡ true → leaves (Done n) d' ≡ pairing w o l c
-    turns-done e = settled-done done (λ c. refl) (i .turn) (p .count) (p .laid) e ∙ settles
+    module _ {s : Settled} (q : s ≡ settled write n space) where
+      pub turns-answered : {a : Answer} → s ≡ Answered a → leaves a d' ≡ pairing w o l c
+      turns-answered h = turn-answered done (λ c. refl) (i .turn) (p .count) (p .laid) q h ∙ settles
 
-    module _ (e : write ≡ false) where
-      pub turns-not : space < n → leaves (NoRoom n) d' ≡ pairing w o l c
-      turns-not h = settled-not done (λ c. refl) (i .turn) (p .count) (p .laid) e (omega (arith, i .space-is)) ∙ settles
-
-      pub turns-again : n ≤ space → Turns w o l space c d' true
-      turns-again h =
-          record { sound = i .sound; formed = i .formed; space-is = i .space-is; turn = turn-again done (λ c. refl) (i .turn) (p .count) (p .laid) e (omega (arith, i .space-is)) }
+      pub turns-again : s ≡ Again → (write ≡ false) × Turns w o l space c d' true
+      turns-again h = let t = turn-again done (λ c. refl) (i .turn) (p .count) (p .laid) q h in (t .0, record { sound = i .sound; formed = i .formed; turn = t .1 })

@@ -2,11 +2,13 @@
 
 use form_seat::judge;
 use integer::seat::Point;
+use passes::Settled;
+use passes::most;
+use passes::settle;
 use rules::Answer;
 use rules::Judgement;
 use rules::Kind;
 use rules::Pairing;
-use two_way_join::enough;
 use two_way_join::shortest;
 use two_way_pass_seat::pass;
 ghost use mathlib.Core.Path.{_≡_};
@@ -45,7 +47,7 @@ fn join_lists(
         out_right.len(),
         out_presence.len(),
     );
-    let mut sure = enough(starts.len()) <= room;
+    let mut sure = most(starts.len()) <= room;
     loop {
         let count = pass(
             asked,
@@ -60,11 +62,9 @@ fn join_lists(
             out_right,
             out_presence,
         );
-        if sure {
-            return Answer::Done(count);
-        }
-        if room < count {
-            return Answer::NoRoom(count);
+        let settled = settle(sure, count, room);
+        if let Settled::Answered(answer) = settled {
+            return answer;
         }
         sure = true;
     }

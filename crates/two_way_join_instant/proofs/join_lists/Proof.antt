@@ -1,9 +1,9 @@
--- `two_way_join_instant::join_lists` meets its contract: it refuses, or its first pass wrote, or that one counted and the second wrote if there was room. Assumes nothing.
+-- `two_way_join_instant::join_lists` meets its contract: it refuses, or a pass settles the answer, the second where the first does not. Assumes nothing.
 use mathlib.Core.Bool.{cond}
 use native.Mathlib.Omega.{arith}
 use borrow.Author.Needs.{needs}
 use Rattle.rules.specs.Lists.{instants}
-use Rattle.two_way_join.proofs.Turns.{Turns, refused, turns-first, turns-room, turns-long, turns-again, turns-done, turns-not}
+use Rattle.two_way_join.proofs.Turns.{Turns, refused, turns-first, turns-room, turns-long, turns-answered, turns-again}
 use Rattle.two_way_join_instant.proofs.join_lists.Statement.{statement}
 use Rattle.two_way_join_instant.proofs.join_lists.Tie as tie
 
@@ -17,7 +17,7 @@ abbrev μ-loop : tie.MeasureT-loop
 μ-loop asked starts ends values counts out-start₀ out-end₀ out-left₀ out-right₀ out-presence₀ room sure₀ out-start out-end out-left out-right out-presence sure =
     cond sure 0 1
 
--- where the lists are judged, where nothing is refused, where the loop is, and where a pass is done
+-- where the lists are judged, where nothing is refused, where the loop is, where a pass is done, and where it is known what it settles
 abbrev Start : Type 0
 Start = tie.Start Inv-loop μ-loop
 
@@ -33,6 +33,9 @@ Loop = tie.At-loop Inv-loop μ-loop
 abbrev Pass : Type 0
 Pass = tie.After-pass Inv-loop μ-loop
 
+abbrev Settled : Type 0
+Settled = tie.After-settle Inv-loop μ-loop
+
 pub join-lists-spec : {M : Type 1} → statement M
 join-lists-spec =
     tie.close
@@ -47,27 +50,29 @@ join-lists-spec =
     (λ c. search needs)
     -- `shortest` asks nothing
     (λ c κs. search needs)
-    -- `enough`: there are at most 2,048 ranges
+    -- `most`: there are at most 2,048 ranges
     (λ c κs. let j : Judged = search in let s : Sound = search in omega (arith, j .judge .ensures .passes (s .enum-told .given .1) .ranges-few))
     -- before the first pass nothing is written, and it writes only where there is sure to be room
-    (λ c. let a : Start = search in let j : Judged = search in let s : Sound = search in turns-first (j .judge .ensures) (s .enum-told .given .1) (c .enough .ensures) (a .args .asked) (c .before .shortest .ensures))
+    (λ c. let a : Start = search in let j : Judged = search in let s : Sound = search in turns-first (j .judge .ensures) (s .enum-told .given .1) (c .most .ensures) (a .args .asked) (c .before .shortest .ensures))
     -- `pass`: the lists passed the form checker, and there is room where it writes
     (λ c κs. let l : Loop = search in (l .loop .inv .formed, turns-room (l .loop .inv)))
-    -- done: the columns are as long as they were, and all pieces are written
+    -- `settle` asks nothing
+    (λ c κs. search needs)
+    (λ c. search needs)
+    -- an answer: the columns are as long as they were, and hold what the answer says
     (λ c. let l : Loop = search in let p : Pass = search in turns-long (l .loop .inv) (p .pass .ensures) .0)
     (λ c. let l : Loop = search in let p : Pass = search in turns-long (l .loop .inv) (p .pass .ensures) .1 .0)
     (λ c. let l : Loop = search in let p : Pass = search in turns-long (l .loop .inv) (p .pass .ensures) .1 .1 .0)
     (λ c. let l : Loop = search in let p : Pass = search in turns-long (l .loop .inv) (p .pass .ensures) .1 .1 .1 .0)
     (λ c. let l : Loop = search in let p : Pass = search in turns-long (l .loop .inv) (p .pass .ensures) .1 .1 .1 .1 .0)
-    (λ c. let l : Loop = search in let p : Pass = search in turns-done (l .loop .inv) (p .pass .ensures) (c .if1 .taken))
-    -- no room: the columns are as they were
-    (λ c. let l : Loop = search in let p : Pass = search in turns-long (l .loop .inv) (p .pass .ensures) .0)
-    (λ c. let l : Loop = search in let p : Pass = search in turns-long (l .loop .inv) (p .pass .ensures) .1 .0)
-    (λ c. let l : Loop = search in let p : Pass = search in turns-long (l .loop .inv) (p .pass .ensures) .1 .1 .0)
-    (λ c. let l : Loop = search in let p : Pass = search in turns-long (l .loop .inv) (p .pass .ensures) .1 .1 .1 .0)
-    (λ c. let l : Loop = search in let p : Pass = search in turns-long (l .loop .inv) (p .pass .ensures) .1 .1 .1 .1 .0)
-    (λ c. let l : Loop = search in let p : Pass = search in turns-not (l .loop .inv) (p .pass .ensures) (c .before .if1 .left) (c .if2 .taken))
+    (λ c. let l : Loop = search in let p : Pass = search in let s : Settled = search in turns-answered (l .loop .inv) (p .pass .ensures) (s .settle .ensures) (c .before .settled .given .1))
+    (λ c. search needs)
     -- a second pass is the last
-    (λ c. let e = c .before .if1 .left in rw e (omega arith))
+    (λ c.
+    let l : Loop = search in
+    let p : Pass = search in
+    let s : Settled = search in
+    let t = turns-again (l .loop .inv) (p .pass .ensures) (s .settle .ensures) (c .enum-told2 .given .1) .0 in
+    rw t (omega arith))
     -- it writes, and there is room
-    (λ c. let l : Loop = search in let p : Pass = search in turns-again (l .loop .inv) (p .pass .ensures) (c .before .if1 .left) (c .if2 .left)))
+    (λ c. let l : Loop = search in let p : Pass = search in let s : Settled = search in turns-again (l .loop .inv) (p .pass .ensures) (s .settle .ensures) (c .enum-told2 .given .1) .1))

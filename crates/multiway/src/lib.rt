@@ -1,0 +1,1 @@
+// The many-way joins and selections: what holds of two calls of any of them.

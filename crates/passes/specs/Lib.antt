@@ -1,0 +1,2 @@
+-- What the contracts of the passes say.
+pub mod Settled
