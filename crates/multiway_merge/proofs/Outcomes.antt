@@ -34,10 +34,10 @@ use Rattle.many_way_rules.specs.Operations.{kind-of, rule-of, merged}
 use Rattle.many_way_rules.specs.Outcomes.{merging}
 use Rattle.many_way_rules.specs.declared.Operation.{Operation}
 use Rattle.many_way_rules.proofs.Room.{merged-of-none}
-use Rattle.multiway_pass.specs.Passes.{lay-if, PutPieces, Joinable}
+use Rattle.multiway_pass.specs.Passes.{lay-if, PutPieces, Mergeable}
 use Rattle.multiway_merge.specs.Zero.{of-none}
 use Rattle.multiway_pass.proofs.Columns.{if-nothing, if-keeps, merged-takes}
-use Rattle.multiway_pass.proofs.Joins.{nothing-there}
+use Rattle.multiway_pass.proofs.Merges.{nothing-there}
 
 -- all pieces
 abbrev pieces : {P : Type 0} → Width P → Operation → Lent P → List Range
@@ -84,8 +84,8 @@ module _ {P : Type 0} {w : Width P} {l : Lent P} {k : Kind} {r : Judgement} (o :
       turns-first q h = record { formed = formed; lists-some = there; turn = turn-first (omega (arith, q, most-enough)) h }
 
 module _ {P : Type 0} {w : Width P} {o : Operation} {l : Lent P} {space : ℕ} {c d : Merged P} {write : Bool} (i : Turns w o l space c d write) where
-  pub turns-joinable : Joinable w o l write d
-  turns-joinable = rw (i .turn .kept) (record { formed = i .formed; lists-some = i .lists-some; roomy = i .turn .enough })
+  pub turns-mergeable : Mergeable w o l write d
+  turns-mergeable = rw (i .turn .kept) (record { formed = i .formed; lists-some = i .lists-some; roomy = i .turn .enough })
 
   -- the columns with all pieces, where they are written
   abbrev done : Bool → Merged P → Merged P

@@ -24,7 +24,7 @@ ghost use Rattle.rules.specs.Answer.{leaves};
 ghost use Rattle.rules.specs.Merged.{output, before, after, lay};
 ghost use Rattle.many_way_rules.specs.Operations.{merged};
 ghost use Rattle.many_way_rules.specs.Outcomes.{merging};
-ghost use Rattle.multiway_pass.specs.Passes.{PutPieces, Joinable};
+ghost use Rattle.multiway_pass.specs.Passes.{PutPieces, Mergeable};
 ghost use Rattle.multiway_merge.specs.Zero.{of-none};
 
 // One pass over all stretches: how many pieces there are. They are written where `write` says so.
@@ -39,7 +39,7 @@ fn pass(
     out_end: &mut [Point],
     out_value: &mut [i64],
 ) -> usize
-    requires { ⌜ Joinable instants operation (lent starts ends values counts) write (output «out_start» «out_end» «out_value») ⌝ }
+    requires { ⌜ Mergeable instants operation (lent starts ends values counts) write (output «out_start» «out_end» «out_value») ⌝ }
     ensures { λ r.
         let xs = merged operation (instants .points) (lists instants (given starts ends values counts)) in
         let c = before «out_start» «out_end» «out_value» in

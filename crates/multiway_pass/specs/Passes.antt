@@ -28,7 +28,7 @@ pub record PutPieces {B C : Type 0} (lay : ℕ → List (Piece B) → C → C) (
 
 module _ {P : Type 0} (w : Width P) (o : Operation) where
   -- lists that the form checker passed, at least one, and room for all pieces where they are written
-  pub record Joinable (l : Lent P) (write : Bool) (c : Merged P) : Type 0 where
+  pub record Mergeable (l : Lent P) (write : Bool) (c : Merged P) : Type 0 where
     pub formed : Formed w (kind-of o) l
     pub lists-some : 0 < length (l .counts)
     pub roomy : write ≡ true → length (merged o (w .points) (lists w l)) ≤ room c

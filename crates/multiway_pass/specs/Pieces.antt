@@ -1,4 +1,4 @@
--- Pieces as the code holds them: what a join says of a stretch, and a piece that may still grow. Assumes nothing.
+-- Pieces as the code holds them: what an operation says of a stretch, and a piece that may still grow. Assumes nothing.
 use Prim.Native.Nat.{ℕ}
 use mathlib.Core.Path.{_≡_}
 use mathlib.Core.Bool.{Bool}

@@ -1,4 +1,5 @@
-// What a many-way join does with a stretch, in keys: what it says of it, and a piece that is merged into the one before or is not.
+// What a many-way operation does with a stretch, in keys: what a join says of it, and a piece that is merged into the one before or is
+// not.
 
 use combine::Combined;
 use combine::combine;
@@ -17,7 +18,7 @@ ghost use Rattle.many_way_rules.specs.declared.Operation.the-variants.{Join};
 ghost use Rattle.slots.specs.Slots.{active, Counted, slots, slots-before};
 ghost use Rattle.multiway_pass.specs.Pieces.{Present, ruling-of, piece-of, waiting, PushedOn};
 
-// What a join says of a stretch: not admitted, or admitted with a value.
+// What an operation says of a stretch: not admitted, or admitted with a value.
 pub enum Ruling {
     Nothing,
     Value(i64),

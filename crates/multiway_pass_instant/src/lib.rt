@@ -18,7 +18,7 @@ ghost use Rattle.rules.specs.Merged.{output, before, after, room, lay};
 ghost use Rattle.many_way_rules.specs.Operations.{merged};
 ghost use Rattle.many_way_rules.specs.declared.Operation.the-variants.{Join};
 ghost use Rattle.multiway_pass.specs.Pieces.{waiting};
-ghost use Rattle.multiway_pass.specs.Passes.{Puttable, PutPieces, Joinable};
+ghost use Rattle.multiway_pass.specs.Passes.{Puttable, PutPieces, Mergeable};
 
 // Writes a piece that is done, if there is one, at a place of the columns, where it is to be written; the place after it.
 pub fn put(
@@ -60,7 +60,7 @@ pub fn pass(
     out_end: &mut [Point],
     out_value: &mut [i64],
 ) -> usize
-    requires { ⌜ Joinable instants (Join admission combiner) (lent starts ends values counts) write (output «out_start» «out_end» «out_value») ⌝ }
+    requires { ⌜ Mergeable instants (Join admission combiner) (lent starts ends values counts) write (output «out_start» «out_end» «out_value») ⌝ }
     ensures { λ r.
         let xs = merged (Join admission combiner) (instants .points) (lists instants (given starts ends values counts)) in
         let c = before «out_start» «out_end» «out_value» in

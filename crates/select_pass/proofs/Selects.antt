@@ -43,7 +43,7 @@ use Rattle.multiway_sweep.proofs.Front.{front-first, front-length, front-column
 use Rattle.multiway_pass.specs.Pieces.{waiting}
 use Rattle.multiway_pass.specs.Passes.{Puttable, PutPieces}
 use Rattle.multiway_sweep.proofs.Begun.{events-count, begun}
-use Rattle.multiway_pass.proofs.Joins.{lists-few, join}
+use Rattle.multiway_pass.proofs.Merges.{lists-few, merge}
 use Rattle.multiway_pass.proofs.Walks.{Walk, Going, skipped, still-puttable, still-going, turn-silent, turn-apart, turn-puttable, turn-more}
 use Rattle.select_pass.specs.Stretches.{StretchesTo, StartsAfter}
 use Rattle.select_pass.specs.Selections.{Held, Carried, chosen, After, Recorded, Fits, taken}
@@ -74,7 +74,7 @@ pub record Selecting {P : Type 0} (w : Width P) (l : Lent P) (a : Arrays) (z : S
 
 -- a selection's walk, and its rule
 abbrev pub selection : {P : Type 0} → Width P → Admission → Lent P → Bool → Merged P → Walk ℤ ℤ (Merged P)
-selection w a l write c = join w (Select Highest a) l write c
+selection w a l write c = merge w (Select Highest a) l write c
 
 -- where no list has anything
 nones-length : (ls : List (List Range)) → length (nones ls) ≡ length ls

@@ -20,7 +20,7 @@ ghost use Rattle.rules.specs.Merged.{output, before, after, lay};
 ghost use Rattle.many_way_rules.specs.Operations.{merged};
 ghost use Rattle.many_way_rules.specs.declared.Pick.the-variants.{Highest};
 ghost use Rattle.many_way_rules.specs.declared.Operation.the-variants.{Select};
-ghost use Rattle.multiway_pass.specs.Passes.{PutPieces, Joinable};
+ghost use Rattle.multiway_pass.specs.Passes.{PutPieces, Mergeable};
 
 // One pass over all events: how many pieces there are. They are written where `write` says so. At each event the stretch before it is
 // recorded, then the event is taken; n ranges have 2n events.
@@ -35,7 +35,7 @@ pub fn pass(
     out_end: &mut [Point],
     out_value: &mut [i64],
 ) -> usize
-    requires { ⌜ Joinable seats (Select Highest admission) (lent starts ends values counts) write (output «out_start» «out_end» «out_value») ⌝ }
+    requires { ⌜ Mergeable seats (Select Highest admission) (lent starts ends values counts) write (output «out_start» «out_end» «out_value») ⌝ }
     ensures { λ r.
         let xs = merged (Select Highest admission) (seats .points) (lists seats (given starts ends values counts)) in
         let c = before «out_start» «out_end» «out_value» in

@@ -3,7 +3,7 @@ use mathlib.Core.Bool.{cond}
 use native.Mathlib.Omega.{arith}
 use borrow.Author.Needs.{needs}
 use Rattle.rules.specs.Lists.{seats}
-use Rattle.multiway_merge.proofs.Outcomes.{refused, merged-none, Turns, turns-first, turns-joinable, turns-long, turns-answered, turns-again}
+use Rattle.multiway_merge.proofs.Outcomes.{refused, merged-none, Turns, turns-first, turns-mergeable, turns-long, turns-answered, turns-again}
 use Rattle.multiway_merge_seat.proofs.merge_lists.Statement.{statement}
 use Rattle.multiway_merge_seat.proofs.merge_lists.Tie as tie
 
@@ -77,7 +77,7 @@ merge-lists-spec =
     let e : Sound = search in
     let j = judged e in
     turns-first _ (kind j .kind-of .ensures) (j .judge .ensures) (e .enum-told .given .1) (omega (arith, t .if1 .left)) (m .most .ensures) (r .shortest .ensures))
-    (λ c κs. let l : Loop = search in turns-joinable (l .loop .inv))
+    (λ c κs. let l : Loop = search in turns-mergeable (l .loop .inv))
     (λ c κs. search needs)
     (λ c. search needs)
     -- a pass settles the answer

@@ -13,7 +13,7 @@ use Rattle.join_sweep.specs.Stretches.{after, moment-of, Joining}
 use Rattle.join_sweep.proofs.Begins.{zeros, joining-first, finds-next, finds-none}
 use Rattle.multiway_pass.specs.Pieces.{waiting}
 use Rattle.multiway_pass.proofs.Walks.{Going, going-first, going-long, last-puttable, walked, turn-less, turn-silent, turn-apart, turn-puttable, turn-more}
-use Rattle.multiway_pass.proofs.Joins.{lists-few, lists-counted, ruled-out, ruled-in, join, walkable, joined}
+use Rattle.multiway_pass.proofs.Merges.{lists-few, lists-counted, ruled-out, ruled-in, join, walkable, joined}
 use Rattle.multiway_pass_instant.proofs.pass.Statement.{statement}
 use Rattle.multiway_pass_instant.proofs.pass.Tie as tie
 

@@ -1,4 +1,4 @@
--- A join as a walk: pieces of whole pence, laid into columns of starts, ends and values from the first place on. Assumes nothing.
+-- A join or a selection as a walk: pieces of whole pence, laid into columns of starts, ends and values from the first place on. Assumes nothing.
 use Prim.Native.Nat.{ℕ, _≤_, _<_}
 use mathlib.Core.Path.{_≡_, sym, ap, _∙_}
 use mathlib.Core.Bool.{Bool}
@@ -23,7 +23,7 @@ use Rattle.many_way_rules.proofs.Room.{rule-nones, merged-enough}
 use Rattle.slots.specs.Slots.{Slots, active, Counted}
 use Rattle.slots.specs.Stretch.{Stretch}
 use Rattle.multiway_pass.specs.Pieces.{ruling-of}
-use Rattle.multiway_pass.specs.Passes.{PutPieces, Joinable}
+use Rattle.multiway_pass.specs.Passes.{PutPieces, Mergeable}
 use Rattle.multiway_pass.specs.declared.Ruling.{Ruling}
 use Rattle.multiway_pass.specs.declared.Ruling.the-variants.{Nothing as NotAdmitted, Value}
 use Rattle.multiway_pass.proofs.Columns.{merged-takes}
@@ -43,11 +43,11 @@ pub nothing-there : (o : Operation) (ls : List (List Range)) → 0 < length ls �
 nothing-there o [] h = absurd (omega arith)
 nothing-there o (l ∷ ls) h = rule-nones o l ls
 
-abbrev pub join : {P : Type 0} → Width P → Operation → Lent P → Bool → Merged P → Walk ℤ ℤ (Merged P)
-join w o l write c = record { same = eqℤ; rule = rule-of o; points = w .points; lists = lists w l; lengths = lengths; lay = lay w; write = write; from = 0; columns = c }
+abbrev pub merge : {P : Type 0} → Width P → Operation → Lent P → Bool → Merged P → Walk ℤ ℤ (Merged P)
+merge w o l write c = record { same = eqℤ; rule = rule-of o; points = w .points; lists = lists w l; lengths = lengths; lay = lay w; write = write; from = 0; columns = c }
 
-module _ {P : Type 0} {w : Width P} {o : Operation} {l : Lent P} {write : Bool} {c : Merged P} (j : Joinable w o l write c) where
-  pub walkable : Walkable (join w o l write c)
+module _ {P : Type 0} {w : Width P} {o : Operation} {l : Lent P} {write : Bool} {c : Merged P} (j : Mergeable w o l write c) where
+  pub walkable : Walkable (merge w o l write c)
   unfolding merged
   walkable =
       record {
@@ -59,10 +59,10 @@ module _ {P : Type 0} {w : Width P} {o : Operation} {l : Lent P} {write : Bool} 
         few = omega (arith, merged-enough o (w .points) (lists w l) (lists-formed (j .formed)) (omega (arith, lists-size w l, j .formed .agree .adds-up, j .formed .ranges-few)));
       }
 
-  -- its pieces are the join's
-  pub joined : {d : Merged P} {r : ℕ} → PutPieces (lay w) write 0 (pieces (join w o l write c)) c d r → PutPieces (lay w) write 0 (merged o (w .points) (lists w l)) c d r
+  -- its pieces are the operation's
+  pub all-merged : {d : Merged P} {r : ℕ} → PutPieces (lay w) write 0 (pieces (merge w o l write c)) c d r → PutPieces (lay w) write 0 (merged o (w .points) (lists w l)) c d r
   unfolding merged
-  joined p = p
+  all-merged p = p
 
   -- what it says of a stretch, as a ruling
   module _ (s : Slots) {k start end : ℕ} (t : Stretch (w .points) (lists w l) k (active (length (lists w l)) s) start end) (q : Ruling) (e : ruling-of q ≡ rule-of o (active (length (l .counts)) s)) where
