@@ -13,7 +13,7 @@ use Rattle.join_sweep.specs.Stretches.{after, moment-of, Joining}
 use Rattle.join_sweep.proofs.Begins.{zeros, joining-first, finds-next, finds-none}
 use Rattle.multiway_pass.specs.Pieces.{waiting}
 use Rattle.multiway_pass.proofs.Walks.{Going, going-first, going-long, last-puttable, walked, turn-less, turn-silent, turn-apart, turn-puttable, turn-more}
-use Rattle.multiway_pass.proofs.Merges.{lists-few, lists-counted, ruled-out, ruled-in, join, walkable, joined}
+use Rattle.multiway_pass.proofs.Merges.{lists-few, lists-counted, ruled-out, ruled-in, merge, walkable, all-merged}
 use Rattle.multiway_pass_instant.proofs.pass.Statement.{statement}
 use Rattle.multiway_pass_instant.proofs.pass.Tie as tie
 
@@ -22,7 +22,7 @@ Inv-loop admission combiner starts ends values counts write out-start₀ out-end
     let l : Lent _ = record { starts = starts; ends = ends; values = values; counts = counts } in
     let c : Merged _ = record { start = out-start₀; end = out-end₀; value = out-value₀ } in
     Joining instants (reads l) (lists instants l) (record { cursors = cursors; start-keys = start-keys; start-lists = start-lists; end-keys = end-keys; end-lists = end-lists }) (record { current = current; present = present }) sweep (moment-of last-end)
-    × Going (join instants (Join admission combiner) l write c) (record { start = out-start; end = out-end; value = out-value }) (waiting pending) count (after last-end)
+    × Going (merge instants (Join admission combiner) l write c) (record { start = out-start; end = out-end; value = out-value }) (waiting pending) count (after last-end)
 
 abbrev μ-loop : tie.MeasureT-loop
 μ-loop admission combiner starts ends values counts write out-start₀ out-end₀ out-value₀ cursors₀ start-keys₀ start-lists₀ end-keys₀ end-lists₀ current₀ present₀ sweep₀ last-end₀ pending₀ count₀ out-start out-end out-value cursors start-keys start-lists end-keys end-lists current present sweep last-end pending count =
@@ -102,7 +102,7 @@ pass-spec =
     let n : Asked = search in
     let l = turn n in
     let i = l .loop .inv in
-    joined (entry l .pre) (walked (i .1) (finds-none instants _ _ _ _ _ (e .enum-told .given .1) (n .next-stretch .ensures _ (i .0))) (p .put .ensures)))
+    all-merged (entry l .pre) (walked (i .1) (finds-none instants _ _ _ _ _ (e .enum-told .given .1) (n .next-stretch .ensures _ (i .0))) (p .put .ensures)))
     -- what the join says of the stretch
     (λ c κs.
     let f : Spanned = search in

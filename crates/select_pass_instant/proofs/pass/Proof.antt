@@ -8,7 +8,7 @@ use Rattle.rules.specs.Merged.{Merged}
 use Rattle.rules.proofs.Columns.{lists-length}
 use Rattle.multiway_pass.specs.Pieces.{waiting}
 use Rattle.multiway_pass.proofs.Walks.{Going, going-first, going-long, last-puttable, walked}
-use Rattle.multiway_pass.proofs.Merges.{walkable, joined}
+use Rattle.multiway_pass.proofs.Merges.{walkable, all-merged}
 use Rattle.select_pass.proofs.Selects.{Selecting, selection, selecting-first, held-length, Taking, taking, over, emit-after, emit-puttable, emit-going, next}
 use Rattle.select_pass_instant.proofs.pass.Statement.{statement}
 use Rattle.select_pass_instant.proofs.pass.Tie as tie
@@ -145,4 +145,4 @@ pass-spec =
     let t : tie.After-loop Inv-loop μ-loop = search in
     let l : Loop = search in
     let i = l .loop .inv in
-    joined (entry l .pre) (walked (i .2) (over (i .1) (omega (arith, t .loop-test .left))) (p .put2 .ensures))))
+    all-merged (entry l .pre) (walked (i .2) (over (i .1) (omega (arith, t .loop-test .left))) (p .put2 .ensures))))
