@@ -6,10 +6,14 @@ ghost use mathlib.Core.Path.{_≡_};
 ghost use Prim.Native.Nat.{_≤_, min};
 ghost use lib.IntN.{ℤ};
 ghost use mathlib.Core.Bool.{cond};
+ghost use mathlib.Core.Option.{some, none};
 ghost use mathlib.Core.List.{List, [], _∷_};
 ghost use Rattle.many_way_rules.specs.Combiners as rules;
 ghost use Rattle.slots.specs.Slots.{slots-before, slots-with, values-of};
-ghost use Rattle.combine.specs.Figures.{answer, Summed, Numbered};
+ghost use Rattle.combine.specs.Figures.{answer, Summed, Numbered, Within, turned, weight, utmost};
+
+// Less than every price and than every negated price.
+const BELOW: i64 = -2147483649;
 
 // A combiner's answer over the values present.
 pub enum Combined {
@@ -52,56 +56,56 @@ fn largest(places: usize, current: &[i32; 16], present: &[bool; 16]) -> i64
     requires { ⌜ places ≤ 16 ⌝ }
     ensures { λ r. ⌜ r ≡ rules.largest (values-of places (slots-before current present)) ⌝ }
 {
-    let mut best: i64 = 0;
-    let mut found = false;
-    let mut i = places;
-    while 0 < i {
-        i -= 1;
-        if present[i] {
-            best = larger(found, current[i] as i64, best);
-            found = true;
-        }
-    }
-    best
-}
-
-// The larger of v and the best found, if one was.
-fn larger(found: bool, v: i64, best: i64) -> i64
-    ensures { λ r. ⌜ r ≡ cond found (rules.largest (v ∷ best ∷ [])) v ⌝ }
-{
-    if found {
-        if v <= best { best } else { v }
-    } else {
-        v
-    }
+    utmost(false, places, current, present)
 }
 
 fn smallest(places: usize, current: &[i32; 16], present: &[bool; 16]) -> i64
     requires { ⌜ places ≤ 16 ⌝ }
     ensures { λ r. ⌜ r ≡ rules.smallest (values-of places (slots-before current present)) ⌝ }
 {
-    let mut best: i64 = 0;
-    let mut found = false;
+    utmost(true, places, current, present)
+}
+
+// The largest value, or the least: that of which the negation is the largest.
+fn utmost(least: bool, places: usize, current: &[i32; 16], present: &[bool; 16]) -> i64
+    requires { ⌜ places ≤ 16 ⌝ }
+    ensures { λ r. ⌜ r ≡ utmost least (values-of places (slots-before current present)) ⌝ }
+{
+    let mut best: i64 = BELOW;
     let mut i = places;
     while 0 < i {
         i -= 1;
-        if present[i] {
-            best = smaller(found, current[i] as i64, best);
-            found = true;
-        }
+        best = larger(weight(least, present[i], current[i]), best);
     }
-    best
+    if best <= BELOW {
+        0
+    } else {
+        turned(least, best)
+    }
 }
 
-// The smaller of v and the best found, if one was.
-fn smaller(found: bool, v: i64, best: i64) -> i64
-    ensures { λ r. ⌜ r ≡ cond found (rules.smallest (v ∷ best ∷ [])) v ⌝ }
+// What a place weighs in the search for the largest: its price, negated for the least; less than any price where it is not present.
+fn weight(least: bool, present: bool, price: i32) -> i64
+    ensures { λ r. ⌜ r ≡ weight least (cond present (some price) none) ⌝ }
 {
-    if found {
-        if v <= best { v } else { best }
+    if present {
+        turned(least, price as i64)
     } else {
-        v
+        BELOW
     }
+}
+
+fn turned(negated: bool, v: i64) -> i64
+    requires { ⌜ Within v ⌝ }
+    ensures { λ r. ⌜ r ≡ turned negated v ⌝ }
+{
+    if negated { -v } else { v }
+}
+
+fn larger(v: i64, best: i64) -> i64
+    ensures { λ r. ⌜ r ≡ rules.largest (v ∷ best ∷ []) ⌝ }
+{
+    if v <= best { best } else { v }
 }
 
 // How many values are present, whatever they are.
