@@ -22,8 +22,8 @@ pub wide : (v : ℤ) → mag v < 2 ^ 31 → SFits w64 (toZ w32 (ofZ w32 v)) × (
 wide v f = rw (toZ-ofZ w32 v (record { sfits = f })) (let g : SFits w64 v = record { sfits = omega arith } in (g, toZ-ofZ w64 v g))
 
 -- a test of two values that went through locals
-pub order-back : (a b : ℤ) {t : Bool} → SFits w64 a → SFits w64 b → leZ (toZ w64 (ofZ w64 a)) (toZ w64 (ofZ w64 b)) ≡ t → leZ a b ≡ t
-order-back a b f g e = rw (toZ-ofZ w64 a f, toZ-ofZ w64 b g) at e
+pub order-back : (a b : ℤ) {t : Bool} → SFits w32 a → SFits w32 b → leZ (toZ w32 (ofZ w32 a)) (toZ w32 (ofZ w32 b)) ≡ t → leZ a b ≡ t
+order-back a b f g e = rw (toZ-ofZ w32 a f, toZ-ofZ w32 b g) at e
 
 mag-difference : (a b : ℕ) → mag (subℕ a b) ≤ a + b
 mag-difference a b = go (ltb a b) refl where

@@ -1,12 +1,12 @@
 -- A combiner's answer, and figures over the values present, with their bounds. Assumes nothing.
 use Prim.Native.Nat.{ℕ, _*_, _≤_, _^_}
 use mathlib.Core.Path.{_≡_}
-use mathlib.Core.Bool.{Bool, false, cond}
+use mathlib.Core.Bool.{Bool, cond}
 use mathlib.Core.List.{List}
 use mathlib.Core.Option.{Option, none, some}
-use lib.IntN.{ℤ, pos, negsuc, negℤ}
+use lib.IntN.{ℤ, pos, negsuc}
 use lib.ListN.{length}
-use lib.Signed.{mag, leZ}
+use lib.Signed.{mag}
 use Rattle.many_way_rules.specs.Combiners.{sum-of, largest, smallest}
 use Rattle.slots.specs.Slots.{Slots, values-of}
 use Rattle.combine.specs.declared.Combined.{Combined}
@@ -26,22 +26,22 @@ pub record Numbered (places : ℕ) (s : Slots) (r : ℤ) : Type 0 where
   pub is : r ≡ pos (length (values-of places s))
   pub bound : mag r ≤ places
 
--- less than every price and than every negated price
-abbrev pub below : ℤ
-below = negsuc (2 ^ 31)
+-- the lowest price
+abbrev pub lowest : ℤ
+lowest = negsuc 2147483647
 
--- z is a price or a negated one
-pub record Within (z : ℤ) : Type 0 where
-  pub low : leZ z below ≡ false
-  pub high : mag z ≤ 2 ^ 31
+-- -1 - z
+abbrev pub mirror : ℤ → ℤ
+mirror (pos n) = negsuc n
+mirror (negsuc n) = pos n
 
-abbrev pub turned : Bool → ℤ → ℤ
-turned negated v = cond negated (negℤ v) v
+abbrev pub mirrored : Bool → ℤ → ℤ
+mirrored so v = cond so (mirror v) v
 
 -- what a place weighs in the search for the largest value, or for the least
 abbrev pub weight : Bool → Option ℤ → ℤ
-weight least none = below
-weight least (some v) = turned least v
+weight least none = lowest
+weight least (some v) = mirrored least v
 
 abbrev pub utmost : Bool → List ℤ → ℤ
 utmost least vs = cond least (smallest vs) (largest vs)

@@ -10,10 +10,10 @@ ghost use mathlib.Core.Option.{some, none};
 ghost use mathlib.Core.List.{List, [], _∷_};
 ghost use Rattle.many_way_rules.specs.Combiners as rules;
 ghost use Rattle.slots.specs.Slots.{slots-before, slots-with, values-of};
-ghost use Rattle.combine.specs.Figures.{answer, Summed, Numbered, Within, turned, weight, utmost};
+ghost use Rattle.combine.specs.Figures.{answer, Summed, Numbered, mirrored, weight, utmost};
 
-// Less than every price and than every negated price.
-const BELOW: i64 = -2147483649;
+// The lowest price.
+const LOWEST: i32 = i32::MIN;
 
 // A combiner's answer over the values present.
 pub enum Combined {
@@ -66,43 +66,44 @@ fn smallest(places: usize, current: &[i32; 16], present: &[bool; 16]) -> i64
     utmost(true, places, current, present)
 }
 
-// The largest value, or the least: that of which the negation is the largest.
+// The largest value, or the least: that whose mirror image is the largest. It goes over the places without a branch.
 fn utmost(least: bool, places: usize, current: &[i32; 16], present: &[bool; 16]) -> i64
     requires { ⌜ places ≤ 16 ⌝ }
     ensures { λ r. ⌜ r ≡ utmost least (values-of places (slots-before current present)) ⌝ }
 {
-    let mut best: i64 = BELOW;
-    let mut i = places;
-    while 0 < i {
-        i -= 1;
+    let mut best = LOWEST;
+    let mut i: usize = 0;
+    while i < places {
         best = larger(weight(least, present[i], current[i]), best);
+        i += 1;
     }
-    if best <= BELOW {
-        0
-    } else {
-        turned(least, best)
+    if best <= LOWEST {
+        if count(places, present) == 0 {
+            return 0;
+        }
     }
+    mirrored(least, best) as i64
 }
 
-// What a place weighs in the search for the largest: its price, negated for the least; less than any price where it is not present.
-fn weight(least: bool, present: bool, price: i32) -> i64
+// What a place weighs in the search for the largest: its price, mirrored for the least; nothing weighs less than one not present.
+fn weight(least: bool, present: bool, price: i32) -> i32
     ensures { λ r. ⌜ r ≡ weight least (cond present (some price) none) ⌝ }
 {
     if present {
-        turned(least, price as i64)
+        mirrored(least, price)
     } else {
-        BELOW
+        LOWEST
     }
 }
 
-fn turned(negated: bool, v: i64) -> i64
-    requires { ⌜ Within v ⌝ }
-    ensures { λ r. ⌜ r ≡ turned negated v ⌝ }
+// A price, or its mirror image: 0 and -1 change places, 1 and -2, and so on, so that larger is less.
+fn mirrored(so: bool, price: i32) -> i32
+    ensures { λ r. ⌜ r ≡ mirrored so price ⌝ }
 {
-    if negated { -v } else { v }
+    if so { -1 - price } else { price }
 }
 
-fn larger(v: i64, best: i64) -> i64
+fn larger(v: i32, best: i32) -> i32
     ensures { λ r. ⌜ r ≡ rules.largest (v ∷ best ∷ []) ⌝ }
 {
     if v <= best { best } else { v }

@@ -29,9 +29,6 @@ module _ {s : Slots} {n : ℕ} where
         let z : suc (i - 1) ≡ i = omega arith in
         record { within = omega arith; kept = rw (e, z) g }
 
-    pub kept-next : ((os : List (Option ℤ)) → F os → G (slot s (i - 1) ∷ os)) → Kept s n (i - 1) G
-    kept-next f = kept-more (f _ (k .kept))
-
     pub kept-there : getD (s .present) (i - 1) false ≡ true → ((os : List (Option ℤ)) → F os → G (some (getD (s .current) (i - 1) (pos 0)) ∷ os)) → Kept s n (i - 1) G
     kept-there t f = kept-more (rw t (f _ (k .kept)))
 
