@@ -1,4 +1,5 @@
--- Laws of sets of lists: how many are in them, and the lists that have something. They know nothing of how a set is kept. Assumes nothing.
+-- Laws of sets of lists: how many are in them, and the lists that have something. They know nothing of how a set is
+-- kept. Assumes nothing.
 use Prim.Native.Nat.{ℕ, zero, suc, _+_, _<_, _≤_}
 use mathlib.Core.Path.{_≡_, refl, sym, ap, _∙_}
 use mathlib.Core.Logic.{⊎-elim}

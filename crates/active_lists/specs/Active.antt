@@ -1,5 +1,6 @@
--- What is promised of the active lists. It speaks of the set of them alone: P says for which sets a value stands at entry, Q at exit. How a value stands
--- for a set is said in `Kept`, of which neither this file nor any caller knows more: another way to keep the set changes neither. Assumes nothing.
+-- What is promised of the active lists. It speaks of the set of them alone: P says for which sets a value stands at
+-- entry, Q at exit. How a value stands for a set is said in `Kept`, of which neither this file nor any caller knows
+-- more: another way to keep the set changes neither. Assumes nothing.
 use Prim.Native.Nat.{ℕ, zero, suc, _+_, _%_, _<_, _≤_}
 use mathlib.Core.Path.{_≡_}
 use mathlib.Core.Bool.{Bool, true, false, cond}

@@ -1,5 +1,6 @@
-// Which of at most sixteen lists are active: the highest of them, and how many. A caller sees the set alone (specs/Active). It is kept in a heap of lists,
-// the highest on top; a list is in it at most once, and one that ended stays in it until it comes to the top, where it is dropped (specs/Kept).
+// Which of at most sixteen lists are active: the highest of them, and how many. A caller sees the set alone (specs/Active).
+// It is kept in a heap of lists, the highest on top; a list is in it at most once, and one that ended stays in it until it
+// comes to the top, where it is dropped (specs/Kept).
 ghost use Prim.Native.Nat.{_+_, _*_, _<_, _≤_};
 ghost use mathlib.Core.Path.{_≡_};
 ghost use mathlib.Core.Bool.{true, false};

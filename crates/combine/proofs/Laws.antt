@@ -1,7 +1,7 @@
 -- Laws of combiners that take one value more, and of the mean. Assumes nothing.
 use Prim.Native.Nat.{ℕ, zero, suc, _+_, _-_, _*_, _/_, _^_, _≤_, _<_}
-use mathlib.Core.Path.{_≡_, refl, sym, ap, _∙_}
-use mathlib.Core.Bool.{Bool, true, false, cond}
+use mathlib.Core.Path.{_≡_, refl, ap, _∙_}
+use mathlib.Core.Bool.{Bool, true, false}
 use mathlib.Core.Option.{none, some}
 use mathlib.Core.List.{List, [], _∷_}
 use native.Mathlib.Omega.{arith}
@@ -22,8 +22,8 @@ pub wide : (v : ℤ) → mag v < 2 ^ 31 → SFits w64 (toZ w32 (ofZ w32 v)) × (
 wide v f = rw (toZ-ofZ w32 v (record { sfits = f })) (let g : SFits w64 v = record { sfits = omega arith } in (g, toZ-ofZ w64 v g))
 
 -- a test of two values that went through locals
-pub order-back : (a b : ℤ) {t : Bool} → SFits w64 a → SFits w64 b → leZ (toZ w64 (ofZ w64 a)) (toZ w64 (ofZ w64 b)) ≡ t → leZ a b ≡ t
-order-back a b f g e = rw (toZ-ofZ w64 a f, toZ-ofZ w64 b g) at e
+pub order-back : (a b : ℤ) {t : Bool} → SFits w32 a → SFits w32 b → leZ (toZ w32 (ofZ w32 a)) (toZ w32 (ofZ w32 b)) ≡ t → leZ a b ≡ t
+order-back a b f g e = rw (toZ-ofZ w32 a f, toZ-ofZ w32 b g) at e
 
 mag-difference : (a b : ℕ) → mag (subℕ a b) ≤ a + b
 mag-difference a b = go (ltb a b) refl where
@@ -63,34 +63,6 @@ module _ {n i : ℕ} {t : ℤ} {l : List ℤ} (s : Total n i t l) (h : 0 < i) (v
 
 pub numbered : {places : ℕ} {s : Slots} (n : ℕ) → n ≤ places → places ≤ 16 → n ≡ length (values-of places s) → Numbered places s (toZ w64 n)
 numbered n h few e = rw (toZ-pos w64 n (omega arith)) (record { is = ap pos e; bound = h })
-
--- a combiner that picks one of the values, two at a time
-pub record Picks (f : List ℤ → ℤ) : Type 0 where
-  pub one : (v : ℤ) → f (v ∷ []) ≡ v
-  pub more : (v u : ℤ) (us : List ℤ) → f (v ∷ u ∷ us) ≡ f (v ∷ f (u ∷ us) ∷ [])
-
-pub largest-picks : Picks rules.largest
-largest-picks = record { one = λ v. refl; more = λ v u us. refl }
-
-pub smallest-picks : Picks rules.smallest
-smallest-picks = record { one = λ v. refl; more = λ v u us. refl }
-
-abbrev filled : List ℤ → Bool
-filled [] = false
-filled (v ∷ l) = true
-
--- found says whether l has a value, and best is what f picks of l
-pub record Best (f : List ℤ → ℤ) (found : Bool) (best : ℤ) (l : List ℤ) : Type 0 where
-  pub there : found ≡ filled l
-  pub picked : best ≡ f l
-
-best-picks : {f : List ℤ → ℤ} {found : Bool} {best : ℤ} → Picks f → (l : List ℤ) → Best f found best l → (v : ℤ) {r : ℤ} → r ≡ cond found (f (v ∷ best ∷ [])) v → Best f true r (v ∷ l)
-best-picks p [] b v e = record { there = refl; picked = (rw (b .there) at e) ∙ sym (p .one v) }
-best-picks p (u ∷ us) b v e = record { there = refl; picked = (rw (b .there, b .picked) at e) ∙ sym (p .more v u us) }
-
--- the same of a price, as the code has it
-pub best-more : {f : List ℤ → ℤ} {found : Bool} {best : ℤ} → Picks f → (l : List ℤ) → Best f found best l → (v : ℤ) → mag v < 2 ^ 31 → (r : ℤ) → mag r < 2 ^ 63 → (let w = toZ w64 (ofZ w64 (toZ w32 (ofZ w32 v))) in r ≡ cond found (f (w ∷ best ∷ [])) w) → Best f true (toZ w64 (ofZ w64 r)) (v ∷ l)
-best-more p l b v g r ok e = best-picks p l b v (toZ-ofZ w64 r (record { sfits = ok }) ∙ (rw (wide v g .1) at e))
 
 mag-negative : (n k : ℕ) → n ≤ suc k → mag (negℤ (pos n)) ≤ k
 mag-negative zero k h = omega arith

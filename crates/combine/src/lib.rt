@@ -6,10 +6,14 @@ ghost use mathlib.Core.Path.{_≡_};
 ghost use Prim.Native.Nat.{_≤_, min};
 ghost use lib.IntN.{ℤ};
 ghost use mathlib.Core.Bool.{cond};
+ghost use mathlib.Core.Option.{some, none};
 ghost use mathlib.Core.List.{List, [], _∷_};
 ghost use Rattle.many_way_rules.specs.Combiners as rules;
 ghost use Rattle.slots.specs.Slots.{slots-before, slots-with, values-of};
-ghost use Rattle.combine.specs.Figures.{answer, Summed, Numbered};
+ghost use Rattle.combine.specs.Figures.{answer, Summed, Numbered, mirrored, weight, utmost};
+
+// The lowest price.
+const LOWEST: i32 = i32::MIN;
 
 // A combiner's answer over the values present.
 pub enum Combined {
@@ -52,56 +56,57 @@ fn largest(places: usize, current: &[i32; 16], present: &[bool; 16]) -> i64
     requires { ⌜ places ≤ 16 ⌝ }
     ensures { λ r. ⌜ r ≡ rules.largest (values-of places (slots-before current present)) ⌝ }
 {
-    let mut best: i64 = 0;
-    let mut found = false;
-    let mut i = places;
-    while 0 < i {
-        i -= 1;
-        if present[i] {
-            best = larger(found, current[i] as i64, best);
-            found = true;
-        }
-    }
-    best
-}
-
-// The larger of v and the best found, if one was.
-fn larger(found: bool, v: i64, best: i64) -> i64
-    ensures { λ r. ⌜ r ≡ cond found (rules.largest (v ∷ best ∷ [])) v ⌝ }
-{
-    if found {
-        if v <= best { best } else { v }
-    } else {
-        v
-    }
+    utmost(false, places, current, present)
 }
 
 fn smallest(places: usize, current: &[i32; 16], present: &[bool; 16]) -> i64
     requires { ⌜ places ≤ 16 ⌝ }
     ensures { λ r. ⌜ r ≡ rules.smallest (values-of places (slots-before current present)) ⌝ }
 {
-    let mut best: i64 = 0;
-    let mut found = false;
-    let mut i = places;
-    while 0 < i {
-        i -= 1;
-        if present[i] {
-            best = smaller(found, current[i] as i64, best);
-            found = true;
-        }
-    }
-    best
+    utmost(true, places, current, present)
 }
 
-// The smaller of v and the best found, if one was.
-fn smaller(found: bool, v: i64, best: i64) -> i64
-    ensures { λ r. ⌜ r ≡ cond found (rules.smallest (v ∷ best ∷ [])) v ⌝ }
+// The largest value, or the least: that whose mirror image is the largest. It goes over the places without a branch.
+fn utmost(least: bool, places: usize, current: &[i32; 16], present: &[bool; 16]) -> i64
+    requires { ⌜ places ≤ 16 ⌝ }
+    ensures { λ r. ⌜ r ≡ utmost least (values-of places (slots-before current present)) ⌝ }
 {
-    if found {
-        if v <= best { v } else { best }
-    } else {
-        v
+    let mut best = LOWEST;
+    let mut i: usize = 0;
+    while i < places {
+        best = larger(weight(least, present[i], current[i]), best);
+        i += 1;
     }
+    if best <= LOWEST {
+        if count(places, present) == 0 {
+            return 0;
+        }
+    }
+    mirrored(least, best) as i64
+}
+
+// What a place weighs in the search for the largest: its price, mirrored for the least; nothing weighs less than one not present.
+fn weight(least: bool, present: bool, price: i32) -> i32
+    ensures { λ r. ⌜ r ≡ weight least (cond present (some price) none) ⌝ }
+{
+    if present {
+        mirrored(least, price)
+    } else {
+        LOWEST
+    }
+}
+
+// A price, or its mirror image: 0 and -1 change places, 1 and -2, and so on, so that larger is less.
+fn mirrored(so: bool, price: i32) -> i32
+    ensures { λ r. ⌜ r ≡ mirrored so price ⌝ }
+{
+    if so { -1 - price } else { price }
+}
+
+fn larger(v: i32, best: i32) -> i32
+    ensures { λ r. ⌜ r ≡ rules.largest (v ∷ best ∷ []) ⌝ }
+{
+    if v <= best { best } else { v }
 }
 
 // How many values are present, whatever they are.
