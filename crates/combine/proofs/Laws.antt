@@ -13,13 +13,10 @@ use lib.Signed.{mag, leZ, quotZ}
 use mir.Syntax.{w32, w64}
 use mir.Val.{SFits, ofZ, toZ}
 use mir.ValLaws.{toZ-ofZ, toZ-pos}
+use Rattle.integer.proofs.Laws.{wide}
 use Rattle.many_way_rules.specs.Combiners as rules
 use Rattle.slots.specs.Slots.{Slots, values-of}
 use Rattle.combine.specs.Figures.{Summed, Numbered}
-
--- a price as an i64
-pub wide : (v : ℤ) → mag v < 2 ^ 31 → SFits w64 (toZ w32 (ofZ w32 v)) × (toZ w64 (ofZ w64 (toZ w32 (ofZ w32 v))) ≡ v)
-wide v f = rw (toZ-ofZ w32 v (record { sfits = f })) (let g : SFits w64 v = record { sfits = omega arith } in (g, toZ-ofZ w64 v g))
 
 -- a test of two values that went through locals
 pub order-back : (a b : ℤ) {t : Bool} → SFits w32 a → SFits w32 b → leZ (toZ w32 (ofZ w32 a)) (toZ w32 (ofZ w32 b)) ≡ t → leZ a b ≡ t

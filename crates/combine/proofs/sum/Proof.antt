@@ -5,9 +5,10 @@ use lib.IntN.{pos}
 use lib.ListN.{getD}
 use mir.Syntax.{w64}
 use mir.Val.{toZ}
+use Rattle.integer.proofs.Laws.{wide}
 use Rattle.rules.specs.Piece as pieces
 use Rattle.slots.proofs.Kept.{Kept, kept-start, kept-there, kept-missing, kept-end}
-use Rattle.combine.proofs.Laws.{wide, Total, total-first, total-skip, summed, total-fits, total-more}
+use Rattle.combine.proofs.Laws.{Total, total-first, total-skip, summed, total-fits, total-more}
 use Rattle.combine.proofs.sum.Statement.{statement}
 use Rattle.combine.proofs.sum.Tie as tie
 

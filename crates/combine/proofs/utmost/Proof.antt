@@ -6,7 +6,7 @@ use native.Mathlib.Omega.{arith}
 use borrow.Author.Needs.{needs}
 use mir.Syntax.{w32}
 use mir.Val.{toZ}
-use Rattle.combine.proofs.Laws.{wide}
+use Rattle.integer.proofs.Laws.{wide}
 use Rattle.combine.proofs.Weights.{Best, best-first, best-next, best-all, best-some, lower-some, counted-some, counted-none}
 use Rattle.combine.proofs.utmost.Statement.{statement}
 use Rattle.combine.proofs.utmost.Tie as tie
