@@ -1,5 +1,5 @@
 /* What a house sells its seats for: base price, demand step and booking fee joined into one list. */
-#include "../crates/c_api/guineatwirl.h"
+#include "../include/guineatwirl.h"
 #include <stdio.h>
 
 #define ROOM 16

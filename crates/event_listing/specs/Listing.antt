@@ -1,15 +1,23 @@
 -- What the contracts of the event listing say of columns: the events stand at their front. Assumes nothing.
 use Prim.Native.Nat.{ℕ, _≤_, _<_}
 use mathlib.Core.Path.{_≡_}
+use mathlib.Core.Bool.{cond}
+use lib.Dec.{leb}
 use lib.IntN.{ℤ}
 use lib.ListN.{length, set}
 use Rattle.rules.specs.Lists.{Width, Lent}
 use Rattle.rules.specs.Refusals.{Formed}
 use Rattle.rules.specs.Sweep.{Event, point, kind, list}
 use Rattle.rules.specs.Listed.{Listed, event-value, room, lay}
+use Rattle.rules.specs.declared.Answer.{Answer}
+use Rattle.rules.specs.declared.Answer.the-variants.{Done, NoRoom}
 use Rattle.rules.specs.declared.Kind.the-variants.{Listing}
 use Rattle.multiway_sweep.specs.Begins.{events-of}
 use Rattle.event_listing.specs.declared.Row.{Row}
+
+-- the answer of an operation that nothing refuses before the room is looked at
+abbrev pub settled : ℕ → ℕ → Answer
+settled needed room = cond (leb needed room) (Done needed) (NoRoom needed)
 
 -- the row of an event
 pub record RowOf (e : Event ℤ) (r : Row) : Type 0 where

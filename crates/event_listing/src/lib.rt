@@ -1,11 +1,12 @@
-// The event listing: every start and end of the lists' ranges, in the order of the sweep; here an event's row.
+// The event listing: every start and end of the lists' ranges, in the order of the sweep; here an event's row, and the answer.
 
 use multiway_sweep::Range;
+use rules::Answer;
 use rules::shorter;
-ghost use Prim.Native.Nat.{_<_, min};
+ghost use Prim.Native.Nat.{_*_, _^_, _<_, min};
 ghost use mathlib.Core.Path.{_≡_};
 ghost use Rattle.rules.specs.Sweep.{starts, ends};
-ghost use Rattle.event_listing.specs.Listing.{RowOf};
+ghost use Rattle.event_listing.specs.Listing.{RowOf, settled};
 
 // An event as the columns have it, its point told by its key.
 pub struct Row {
@@ -46,4 +47,17 @@ pub fn shortest(a: usize, b: usize, c: usize, d: usize) -> usize
     ensures { λ r. ⌜ r ≡ min a (min b (min c d)) ⌝ }
 {
     shorter(a, shorter(b, shorter(c, d)))
+}
+
+// The answer where nothing is refused before: two events for each range, if there is room for them.
+pub fn settled(ranges: usize, room: usize) -> Answer
+    requires { ⌜ ranges < 2 ^ 63 ⌝ }
+    ensures { λ r. ⌜ r ≡ settled (2 * ranges) room ⌝ }
+{
+    let needed = 2 * ranges;
+    if needed <= room {
+        Answer::Done(needed)
+    } else {
+        Answer::NoRoom(needed)
+    }
 }

@@ -2,6 +2,7 @@
 
 use event_listing::Row;
 use event_listing::end_row;
+use event_listing::settled;
 use event_listing::shortest;
 use event_listing::start_row;
 use form_seat::judge;
@@ -116,25 +117,24 @@ pub fn list_events(
     if let Judgement::Refused(answer) = judged {
         return answer;
     }
-    let needed = 2 * starts.len();
     let room = shortest(
         out_kind.len(),
         out_point.len(),
         out_list.len(),
         out_value.len(),
     );
-    if room < needed {
-        return Answer::NoRoom(needed);
+    let answer = settled(starts.len(), room);
+    if let Answer::Done(_) = answer {
+        write_events(
+            starts,
+            ends,
+            values,
+            counts,
+            out_kind,
+            out_point,
+            out_list,
+            out_value,
+        );
     }
-    write_events(
-        starts,
-        ends,
-        values,
-        counts,
-        out_kind,
-        out_point,
-        out_list,
-        out_value,
-    );
-    Answer::Done(needed)
+    answer
 }

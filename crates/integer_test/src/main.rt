@@ -4,13 +4,9 @@ mod seat;
 
 fn main() {
     io::write_all(1, b"seat\n");
-    seat::ends();
-    seat::steps();
-    seat::checked_steps();
+    seat::facts();
     io::write_all(1, b"instant\n");
-    instant::ends();
-    instant::steps();
-    instant::checked_steps();
+    instant::facts();
 }
 
 fn say(fact: &[u8], holds: bool) {

@@ -1,5 +1,4 @@
 -- `list_events` meets its contract. Assumes nothing.
-use native.Mathlib.Omega.{arith}
 use borrow.Author.Needs.{needs}
 use Rattle.rules.specs.Lists.{seats}
 use Rattle.event_listing.proofs.Outcome.{refused, no-room, listable, written}
@@ -15,17 +14,31 @@ list-events-spec =
     -- refused
     (λ c. search needs)
     (λ c. refused seats _ (c .before .before .before .judge .ensures) (c .before .judged .given .1))
-    -- the count, and `shortest`
-    (λ c. search needs)
+    -- `shortest`, `settled`
     (λ c. search needs)
     (λ c κs. search needs)
-    -- no room
-    (λ c. let r = c .before .before in no-room seats _ (r .before .before .judge .ensures) (r .enum-told .given .1) _ (c .before .shortest .ensures) (omega arith))
+    (λ c κs. search needs)
     -- `write_events`
-    (λ c κs. let e : tie.Else1 = search in let r = e .before .before in listable seats _ (r .before .before .judge .ensures) (r .enum-told .given .1) _ (e .before .shortest .ensures) (omega arith))
+    (λ c. search needs)
+    (λ c κs.
+    let a : tie.After-settled = search in
+    let d : tie.After-enum-told2 = search in
+    let r = a .before .before in
+    listable seats _ (r .before .before .judge .ensures) (r .enum-told .given .1) _ (a .before .shortest .ensures) (a .settled .ensures) (d .enum-told2 .given .1))
     (λ c. search needs)
     (λ c. search needs)
     (λ c. search needs)
     (λ c. search needs)
     -- done
-    (λ c. let o : tie.After-write-events = search in let e : tie.Else1 = search in let r = e .before .before in written seats _ (r .before .before .judge .ensures) (r .enum-told .given .1) _ (e .before .shortest .ensures) (omega arith) (o .write-events .ensures)))
+    (λ c.
+    let a : tie.After-settled = search in
+    let d : tie.After-enum-told2 = search in
+    let o : tie.After-write-events = search in
+    let r = a .before .before in
+    written seats _ (r .before .before .judge .ensures) (r .enum-told .given .1) _ (a .before .shortest .ensures) (a .settled .ensures) (d .enum-told2 .given .1) (o .write-events .ensures))
+    -- no room
+    (λ c.
+    let a : tie.After-settled = search in
+    let k : tie.At-match2-keys2 = search in
+    let r = a .before .before in
+    no-room seats _ (r .before .before .judge .ensures) (r .enum-told .given .1) _ (a .before .shortest .ensures) (a .settled .ensures) (k .match2 .keys2)))
