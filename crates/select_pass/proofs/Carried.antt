@@ -1,11 +1,12 @@
 -- What the lists have as a selection holds it: what it says of it, and how an event changes it. Assumes nothing.
-use Prim.Native.Nat.{ℕ, _≤_, _<_}
-use mathlib.Core.Path.{_≡_, refl, sym, ap, _∙_}
-use mathlib.Core.Bool.{Bool, true, false, true≢false}
+use Prim.Native.Nat.{ℕ, _+_, _≤_, _<_}
+use mathlib.Core.Path.{_≡_, refl, sym, ap, _∙_, subst}
+use mathlib.Core.Bool.{Bool, true, false, true≢false, _&&_}
 use mathlib.Core.Option.{Option, none, some}
 use mathlib.Core.List.{List}
 use native.Mathlib.Decide.{ℕ-discrete}
 use native.Mathlib.Omega.{arith}
+use lib.Dec.{ltb}
 use lib.IntN.{ℤ, pos}
 use lib.ListN.{length, getD, set, length-set}
 use lib.Seq.{getD-set-same, getD-set-other}
@@ -14,7 +15,7 @@ use Rattle.many_way_rules.specs.Selections.{admitted, picked}
 use Rattle.many_way_rules.specs.declared.Admission.{Admission}
 use Rattle.many_way_rules.specs.declared.Pick.the-variants.{Highest}
 use Rattle.many_way_rules.proofs.Selections.{by-number, admitted-number, highest-none, highest-exactly}
-use Rattle.active_lists.specs.Active.{Set, with, without, has, number, HighestIn, IsHighest, Known}
+use Rattle.active_lists.specs.Active.{Set, with, without, has, number, HighestIn, IsHighest, Known, Numbers}
 use Rattle.active_lists.specs.Kept.{Active, Stands}
 use Rattle.active_lists.specs.declared.HighestActive.{HighestActive}
 use Rattle.active_lists.specs.declared.HighestActive.the-variants.{List as Top, Nothing}
@@ -24,7 +25,10 @@ use Rattle.multiway_sweep.specs.declared.Range.{Range as Span}
 use Rattle.multiway_sweep.specs.declared.Sizes.{Sizes}
 use Rattle.multiway_sweep.specs.declared.Step.{Step}
 use Rattle.multiway_sweep.specs.declared.Step.the-variants.{Start, End, Done}
+use Rattle.select_pass.specs.Stretches.{StartsAfter}
 use Rattle.select_pass.specs.Selections.{Held, Carried, chosen, Fits, Due, taken}
+use Rattle.select_pass.specs.declared.StretchStart.the-variants.{At, Nowhere}
+use Rattle.select_pass.proofs.Stretches.{after-start, after-end, after-last, after-nothing}
 
 -- a list that has something has a value
 something : (o : Option ℤ) → there o ≡ true → (v : ℤ) × (o ≡ some v)
@@ -109,8 +113,8 @@ module _ (e : Step) {y : Span} {list : ℕ} {v : ℤ} {z : Sizes} (h : e ≡ Sta
     pub start-idle : has act list ≡ false
     start-idle = ap there (start-fits act f .1)
 
-    pub start-taken : {u : ℤ} → u ≡ v → {active' : Active} → Stands active' (with (has act) list) → Carried (set current list u) active' (taken e act)
-    start-taken q s = rw h (began k (start-fits act f .0) q s)
+    pub start-taken : (greatest : ℕ) {u : ℤ} → u ≡ v → {active' : Active} → Stands active' (with (has act) list) → let after = taken e act in Carried (set current list u) active' after × StartsAfter e (length (present after)) greatest (At (y .start))
+    start-taken greatest q s = (rw h (began k (start-fits act f .0) q s), after-start e (length (present (taken e act))) greatest h)
 
 module _ (e : Step) {at list : ℕ} {z : Sizes} (h : e ≡ End at list z) where
   end-fits : (act : Held) → Fits e act → Fits (End at list z) act
@@ -123,8 +127,19 @@ module _ (e : Step) {at list : ℕ} {z : Sizes} (h : e ≡ End at list z) where
     pub end-active : has act list ≡ true
     end-active = end-fits act f .1
 
-    pub end-taken : {active' : Active} → Stands active' (without (has act) list) → Carried current active' (taken e act)
-    end-taken s = rw h (ended k (end-fits act f .0) s)
+    module _ {active' : Active} (s : Stands active' (without (has act) list)) where
+      end-carried : Carried current active' (taken e act)
+      end-carried = rw h (ended k (end-fits act f .0) s)
 
-pub none-taken : (e : Step) → e ≡ Done → {current : List ℤ} {active : Active} {act : Held} → Carried current active act → Carried current active (taken e act)
-none-taken e h k = rw h k
+      active-number : {n : ℕ} → Numbers (Stands active') n → n ≡ length (present (taken e act))
+      active-number c = c (has (taken e act)) (end-carried .stands) ∙ number-present (taken e act) (end-carried .few)
+
+      pub end-taken : (greatest : ℕ) → let after = taken e act in Carried current active' after × StartsAfter e (length (present after)) greatest (At (at + 1))
+      end-taken greatest = (end-carried, after-end e (length (present (taken e act))) greatest h)
+
+      -- the stretch after it has no point, or no list is active then
+      pub last-taken : (n greatest : ℕ) → Numbers (Stands active') n → (ltb 0 n && ltb at greatest) ≡ false → let after = taken e act in Carried current active' after × StartsAfter e (length (present after)) greatest Nowhere
+      last-taken n greatest c q = (end-carried, subst (λ m. StartsAfter e m greatest Nowhere) (active-number c) (after-last e n greatest h q))
+
+pub none-taken : (e : Step) → e ≡ Done → {current : List ℤ} {active : Active} {act : Held} → Carried current active act → (greatest : ℕ) → let after = taken e act in Carried current active after × StartsAfter e (length (present after)) greatest Nowhere
+none-taken e h {act = act} k greatest = (rw h k, after-nothing e (length (present (taken e act))) greatest h)

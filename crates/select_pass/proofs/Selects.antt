@@ -8,7 +8,7 @@ use mathlib.Core.List.{List, [], _∷_}
 use native.Mathlib.Omega.{arith}
 use lib.IntN.{ℤ, pos}
 use lib.ListN.{length, getD, replicate, length-map, List·getD-map}
-use Rattle.rules.specs.Piece.{Piece, Range, column, there, AllWellFormed, Within}
+use Rattle.rules.specs.Piece.{Piece, Range, column, present, there, AllWellFormed, Within}
 use Rattle.rules.specs.Lists.{Width, Lent, lists}
 use Rattle.rules.specs.Runs.{says}
 use Rattle.rules.specs.Answer.{least}
@@ -26,9 +26,8 @@ use Rattle.rules.proofs.Sweep.{kind-small}
 use Rattle.many_way_rules.specs.declared.Admission.{Admission}
 use Rattle.many_way_rules.specs.declared.Pick.the-variants.{Highest}
 use Rattle.many_way_rules.specs.declared.Operation.the-variants.{Select}
-use Rattle.active_lists.specs.Active.{nobody, has, Numbers}
+use Rattle.active_lists.specs.Active.{nobody, has}
 use Rattle.active_lists.specs.Kept.{Active, Stands}
-use Rattle.active_lists.proofs.Sets.{number-present}
 use Rattle.active_lists.proofs.Stands.{stands-same}
 use Rattle.slots.proofs.Slots.{count-none}
 use Rattle.slots.specs.Stretch.{Stretch, NoStretch}
@@ -187,22 +186,22 @@ module _ {P : Type 0} {w : Width P} {l : Lent P} {a : Arrays} {z : Sizes} {curre
             go (some b) v h = rw (h .1) (turn-more i (stretch y t) (h .2) refl refl v u)
 
     -- it is taken: the next stretch starts where it bears on the lists
-    module _ {current' : List ℤ} {active' : Active} (h : Carried current' active' (taken e (g .act))) (m greatest : ℕ) (counts : Numbers (Stands active') m) (last : greatest + 1 ≡ w .points) where
+    module _ {current' : List ℤ} {active' : Active} (h : Carried current' active' (taken e (g .act))) (greatest : ℕ) (last : greatest + 1 ≡ w .points) where
       carried : Carried current' active' (apply x (g .act))
       carried = rw (sym (k .changes)) h
 
       took : Front ls (moment x) (k .rest) (apply x (g .act))
       took = front-take (w .points) ls (g .formed) ahead
 
-      idle : m ≡ 0 → apply x (g .act) ≡ nones ls
-      idle u = count-none (apply x (g .act)) ls (front-length (w .points) ls (g .formed) took) (omega (arith, counts (has (apply x (g .act))) (carried .stands), number-present (apply x (g .act)) (carried .few)))
+      idle : length (present (taken e (g .act))) ≡ 0 → apply x (g .act) ≡ nones ls
+      idle u = count-none (apply x (g .act)) ls (front-length (w .points) ls (g .formed) took) (rw (k .changes) at u)
 
-      starts-from : (s : StretchStart) → StartsAfter e m greatest s → StartsFrom (w .points) ls (apply x (g .act)) (edge x) s
+      starts-from : (s : StretchStart) → StartsAfter e (length (present (taken e (g .act)))) greatest s → StartsFrom (w .points) ls (apply x (g .act)) (edge x) s
       starts-from (At s) t = on-that (λ v. s ≡ edge v) ⊥ e (k .that) t
       starts-from Nowhere (inl t) = inl (idle t)
       starts-from Nowhere (inr t) = inr (omega (arith, inside, on-that (λ v. greatest < edge v) (Unit {0}) e (k .that) t))
 
-      pub next : (s : StretchStart) → StartsAfter e m greatest s → {y : Sizes} → y ≡ sizes-after e z → Selecting w l b y current' active' s (n - 1) (edge x)
+      pub next : (s : StretchStart) → StartsAfter e (length (present (taken e (g .act)))) greatest s → {y : Sizes} → y ≡ sizes-after e z → Selecting w l b y current' active' s (n - 1) (edge x)
       next s t q =
           let v = kind-small x in
           record {

@@ -6,7 +6,7 @@ use mathlib.Core.Option.{Option, none, some}
 use mathlib.Core.List.{List, [], _∷_}
 use lib.IntN.{ℤ, pos}
 use lib.ListN.{length, getD}
-use Rattle.rules.specs.Piece.{Range, Within, there}
+use Rattle.rules.specs.Piece.{Range, Within, there, present}
 use Rattle.rules.specs.Lists.{Column, Columns}
 use Rattle.rules.specs.Same.{eqℤ}
 use Rattle.rules.specs.Sweep as rules
@@ -22,6 +22,8 @@ use Rattle.multiway_sweep.specs.declared.Step.{Step}
 use Rattle.multiway_sweep.specs.declared.Step.the-variants.{Start, End, Done}
 use Rattle.multiway_pass.specs.Pieces.{ruling-of, waiting, PushedOn}
 use Rattle.multiway_pass.specs.declared.Ruling.{Ruling}
+use Rattle.select_pass.specs.Stretches.{StartsAfter}
+use Rattle.select_pass.specs.declared.StretchStart.{StretchStart}
 use Rattle.select_pass.specs.declared.StretchBefore.{StretchBefore}
 use Rattle.select_pass.specs.declared.StretchBefore.the-variants.{Of, Nothing}
 use Rattle.select_pass.specs.declared.Emitted.{Emitted}
@@ -107,5 +109,6 @@ taken (Start r list v z) act = apply (rules.starts (r .start) list v) act
 taken (End key list z) act = apply (rules.ends key list) act
 taken Done act = act
 
-abbrev pub Takes : Step → (Held → Type 0) → (Held → Type 0) → Type 0
-Takes e P Q = (act : Held) → P act → Fits e act → Q (taken e act)
+-- the next stretch starts at r, by how many lists are active then
+abbrev pub Takes : Step → ℕ → (Held → Type 0) → (Held → Type 0) → StretchStart → Type 0
+Takes e greatest P Q r = (act : Held) → P act → Fits e act → let after = taken e act in Q after × StartsAfter e (length (present after)) greatest r

@@ -18,7 +18,7 @@ use multiway_sweep::Range;
 use multiway_sweep::Step;
 ghost use Prim.Native.Nat.{_≤_};
 ghost use Rattle.multiway_pass.specs.Pieces.{waiting};
-ghost use Rattle.select_pass.specs.Stretches.{StretchesTo, StartsAfter};
+ghost use Rattle.select_pass.specs.Stretches.{StretchesTo};
 ghost use Rattle.select_pass.specs.Selections.{carried, carried-before, carried-after, kept, Keeps, Known, Says, Emittable, Emits, Due, Takes};
 
 // Where the current stretch starts, while a list is active.
@@ -63,22 +63,6 @@ pub fn stretch_before(event: Step, stretch_start: StretchStart) -> StretchBefore
         Step::Done => {}
     }
     StretchBefore::Nothing
-}
-
-// Where the stretch after an event starts, with so many lists active then. Nothing is added to the greatest point.
-pub fn stretch_after(event: Step, active_count: usize, greatest: u64) -> StretchStart
-    ensures { λ r. ⌜ StartsAfter event «active_count» greatest r ⌝ }
-{
-    match event {
-        Step::Start(range, _, _, _) => return StretchStart::At(range.start),
-        Step::End(at, _, _) => {
-            if (0 < active_count) & (at < greatest) {
-                return StretchStart::At(at + 1);
-            }
-        }
-        Step::Done => {}
-    }
-    StretchStart::Nowhere
 }
 
 // Whether the points are admitted at which so many lists have what is active.
@@ -151,17 +135,30 @@ pub fn emit(
     }
 }
 
-// Takes an event: its list becomes active with a value, or inactive.
-pub fn take(event: Step, current: &mut [i32; 16], active: &mut Active)
+// Takes an event: its list becomes active with a value, or inactive. Tells where the next stretch starts; nothing is added to the
+// greatest point.
+pub fn take(
+    event: Step,
+    greatest: u64,
+    current: &mut [i32; 16],
+    active: &mut Active,
+) -> StretchStart
     requires { ⌜ Due (carried current active) event ⌝ }
-    ensures { λ _. ⌜ Takes event (carried-before current active) (carried-after current active) ⌝ }
+    ensures { λ r. ⌜ Takes event greatest (carried-before current active) (carried-after current active) r ⌝ }
 {
     match event {
-        Step::Start(_, list, value, _) => {
+        Step::Start(range, list, value, _) => {
             current[list] = value;
             activate(active, list);
+            return StretchStart::At(range.start);
         }
-        Step::End(_, list, _) => deactivate(active, list),
+        Step::End(at, list, _) => {
+            deactivate(active, list);
+            if (0 < how_many(active)) & (at < greatest) {
+                return StretchStart::At(at + 1);
+            }
+        }
         Step::Done => {}
     }
+    StretchStart::Nowhere
 }

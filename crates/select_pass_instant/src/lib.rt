@@ -1,6 +1,5 @@
 // One pass of a selection over the events of the lists: its pieces are counted, and written where that is asked.
 
-use active_lists::how_many;
 use active_lists::idle;
 use integer::instant::Point;
 use integer::instant::greatest_key;
@@ -12,7 +11,6 @@ use multiway_sweep_instant::fill;
 use multiway_sweep_instant::step;
 use select_pass::StretchStart;
 use select_pass::emit;
-use select_pass::stretch_after;
 use select_pass::stretch_before;
 use select_pass::take;
 ghost use Rattle.rules.specs.Lists.{instants, lists, lent, given};
@@ -71,6 +69,7 @@ pub fn pass(
             &mut end_lists,
             sizes,
         );
+        sizes = sizes_after(event, sizes);
         let stretch = stretch_before(event, stretch_start);
         let emitted = emit(
             admission,
@@ -83,9 +82,7 @@ pub fn pass(
         let done = emitted.done;
         count = put(write, count, done, out_start, out_end, out_value);
         pending = emitted.pending;
-        take(event, &mut current, &mut active);
-        stretch_start = stretch_after(event, how_many(&active), greatest_key());
-        sizes = sizes_after(event, sizes);
+        stretch_start = take(event, greatest_key(), &mut current, &mut active);
         left -= 1;
     }
     put(write, count, pending, out_start, out_end, out_value)

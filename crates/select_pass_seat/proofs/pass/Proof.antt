@@ -59,6 +59,9 @@ test e = search
 abbrev came : Before → Event
 came b = search
 
+abbrev sized : Before → tie.After-sizes-after Inv-loop μ-loop
+sized b = search
+
 abbrev before : Emitted → Before
 before m = search
 
@@ -90,6 +93,7 @@ pass-spec =
     -- the next event
     (λ c κs. let l : Loop = search in (_, l .loop .inv .1 .sweeping))
     (λ c κs. search needs)
+    (λ c κs. search needs)
     -- the stretch before it
     (λ c κs.
     let b : Before = search in
@@ -105,33 +109,28 @@ pass-spec =
     let a = entry (turn e) in
     emit-puttable (i .1) (taken e) (a .args .admission) (a .args .write) _ (i .2) (b .stretch-before .result) (b .stretch-before .ensures) (m .emit .result) (m .emit .ensures (i .1 .act) (i .1 .carried) (held-length (i .1)) .0))
     -- the event is taken
+    (λ c κs. search needs)
     (λ c κs.
     let p : Put = search in
     let m = emitted p in
     let e = came (before m) in
     let g = turn e .loop .inv .1 in
     (g .act, m .emit .ensures (g .act) (g .carried) (held-length g) .1, taken e .fits))
-    (λ c κs. search needs)
-    (λ c κs. search needs)
-    (λ c κs. search needs)
-    (λ c κs. search needs)
     (λ c. let t : Took = search in omega (arith, test (came (before (emitted (put t)))) .loop-test .taken))
     (λ c. let t : Took = search in omega (arith, test (came (before (emitted (put t)))) .loop-test .taken))
     (λ c.
-    let z : tie.After-sizes-after Inv-loop μ-loop = search in
-    let s : tie.After-stretch-after Inv-loop μ-loop = search in
-    let n : tie.After-how-many Inv-loop μ-loop = search in
-    let k : tie.After-greatest-key Inv-loop μ-loop = search in
     let t : Took = search in
+    let n : tie.After-greatest-key Inv-loop μ-loop = search in
     let p = put t in
     let m = emitted p in
     let b = before m in
     let e = came b in
     let i = turn e .loop .inv in
     let a = entry (turn e) in
-    let r = m .emit .ensures (i .1 .act) (i .1 .carried) (held-length (i .1)) in (
+    let r = m .emit .ensures (i .1 .act) (i .1 .carried) (held-length (i .1)) in
+    let u = t .take .ensures (i .1 .act) (r .1) (taken e .fits) in (
       _,
-      next (i .1) (taken e) (t .take .ensures (i .1 .act) (r .1) (taken e .fits)) _ _ (n .how-many .ensures) (k .greatest-key .ensures) (s .stretch-after .result) (s .stretch-after .ensures) (z .sizes-after .ensures),
+      next (i .1) (taken e) (u .0) (n .greatest-key .result) (n .greatest-key .ensures) (t .take .result) (u .1) (sized b .sizes-after .ensures),
       emit-going (i .1) (taken e) (a .args .admission) (a .args .write) _ (i .2) (b .stretch-before .result) (b .stretch-before .ensures) (m .emit .result) (r .0) (p .put .ensures),
     ))
     -- none is left: what is pending is put
