@@ -12,19 +12,17 @@ use rules::number;
 ghost use Prim.Native.Nat.{_<_};
 
 fn print_answer(answer: Answer) {
-    print_code(code(answer));
-    io::write_all(1, b" ");
-    io::print_decimal(1, number(answer) as u64);
-    io::write_all(1, b"\n");
-}
-
-fn print_code(code: u8) {
-    if code == 0 {
-        io::write_all(1, b": done");
+    let Answer::Done(count) = answer else {
+        io::write_all(1, b": refused ");
+        io::print_decimal(1, code(answer) as u64);
+        io::write_all(1, b" ");
+        io::print_decimal(1, number(answer) as u64);
+        io::write_all(1, b"\n");
         return;
-    }
-    io::write_all(1, b": refused ");
-    io::print_decimal(1, code as u64);
+    };
+    io::write_all(1, b": done ");
+    io::print_decimal(1, count as u64);
+    io::write_all(1, b"\n");
 }
 
 // A number by its key, where 0 has the key `zero`.

@@ -9,6 +9,7 @@ use event_listing_seat::list_events;
 use integer::seat::Point;
 use integer::seat::greatest;
 use integer::seat::key;
+use integer::seat::key_at;
 use integer::seat::least;
 ghost use Prim.Native.Nat.{_<_, _≤_};
 
@@ -31,13 +32,16 @@ fn list(starts: &[Point], ends: &[Point], values: &[i32], counts: &[u32], room: 
         &mut out_value[..room],
     );
     print_answer(answer);
-    print_places(&out_kind, &out_point, &out_list, &out_value);
-}
-
-fn print_places(kinds: &[u8; 6], points: &[Point; 6], lists: &[u8; 6], values: &[i32; 6]) {
+    let zero = key(0);
     let mut i: usize = 0;
     while i < 6 {
-        print_place(kinds[i], key(points[i]), key(0), lists[i], values[i]);
+        print_place(
+            out_kind[i],
+            key_at(&out_point, i),
+            zero,
+            out_list[i],
+            out_value[i],
+        );
         i += 1;
     }
 }
@@ -83,15 +87,8 @@ pub(crate) fn list_case(row: usize)
 
 // 2,049 ranges, then the same with too few values, and 17 lists.
 pub(crate) fn list_too_many() {
-    list_many(2049);
-    list_many(1);
-    list(&[1, 1], &[0, 0], &[5, 5], &[0; 17], 6);
-}
-
-fn list_many(values: usize)
-    requires { ⌜ values ≤ 2049 ⌝ }
-{
     let points: [Point; 2049] = [3; 2049];
-    let fives: [i32; 2049] = [5; 2049];
-    list(&points, &points, &fives[..values], &[2049], 6);
+    list(&points, &points, &[5; 2049], &[2049], 6);
+    list(&points, &points, &[5], &[2049], 6);
+    list(&[1, 1], &[0, 0], &[5, 5], &[0; 17], 6);
 }

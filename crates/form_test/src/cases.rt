@@ -111,7 +111,7 @@ pub(crate) fn number(letter: u8) -> u32 {
     }
 }
 
-fn size(letter: u8, most: usize) -> usize
+pub(crate) fn size(letter: u8, most: usize) -> usize
     ensures { λ r. ⌜ r ≤ most ⌝ }
 {
     let n = number(letter) as usize;
@@ -155,45 +155,11 @@ pub(crate) fn counts(row: usize) -> [u32; 3]
     ]
 }
 
-fn kind(letter: u8, combiner: u8) -> Kind {
+pub(crate) fn kind(letter: u8, combiner: u8) -> Kind {
     match letter {
         b'l' => Kind::Listing,
         b't' => Kind::TwoWay,
         b'j' => Kind::Join(known((number(combiner) % 256) as u8)),
         _ => Kind::Selection,
     }
-}
-
-pub(crate) fn few_kind(row: usize) -> Kind
-    requires { ⌜ row < 48 ⌝ }
-{
-    kind(few(row, 0), few(row, 1))
-}
-
-pub(crate) fn many_kind(row: usize) -> Kind
-    requires { ⌜ row < 17 ⌝ }
-{
-    kind(many(row, 0), many(row, 1))
-}
-
-pub(crate) fn many_size(row: usize, column: usize) -> usize
-    requires { ⌜ (row < 17) × (column < 14) ⌝ }
-    ensures { λ r. ⌜ r ≤ 2049 ⌝ }
-{
-    size(many(row, column), 2049)
-}
-
-pub(crate) fn many_lists(row: usize) -> usize
-    requires { ⌜ row < 17 ⌝ }
-    ensures { λ r. ⌜ r ≤ 17 ⌝ }
-{
-    size(many(row, 10), 17)
-}
-
-pub(crate) fn many_counts(row: usize) -> [u32; 17]
-    requires { ⌜ row < 17 ⌝ }
-{
-    let mut counts: [u32; 17] = [number(many(row, 13)); 17];
-    counts[0] = number(many(row, 12));
-    counts
 }

@@ -37,14 +37,10 @@ fn print_found(found: Judgement) {
         io::write_all(1, b"sound");
         return;
     };
-    print_refused(code(answer), number(answer));
-}
-
-fn print_refused(code: u8, number: usize) {
     io::write_all(1, b"refused ");
-    io::print_decimal(1, code as u64);
+    io::print_decimal(1, code(answer) as u64);
     io::write_all(1, b" ");
-    io::print_decimal(1, number as u64);
+    io::print_decimal(1, number(answer) as u64);
 }
 
 fn print_both(seats: Judgement, instants: Judgement) {

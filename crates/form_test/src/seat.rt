@@ -2,14 +2,12 @@
 
 use crate::cases::counts;
 use crate::cases::few;
-use crate::cases::few_kind;
+use crate::cases::kind;
 use crate::cases::lists;
-use crate::cases::many_counts;
-use crate::cases::many_kind;
-use crate::cases::many_lists;
-use crate::cases::many_size;
+use crate::cases::many;
 use crate::cases::number;
 use crate::cases::ranges;
+use crate::cases::size;
 use form_seat::judge;
 use integer::seat::Point;
 use integer::seat::greatest;
@@ -45,8 +43,9 @@ pub(crate) fn judged_few(row: usize) -> Judgement
     let counts = counts(row);
     let n = ranges(row);
     let lists = lists(row);
+    let asked = kind(few(row, 0), few(row, 1));
     judge(
-        few_kind(row),
+        asked,
         &starts[..n],
         &ends[..n],
         &values[..n],
@@ -73,16 +72,18 @@ fn ascending(n: usize, last: usize) -> [Point; 2049]
 pub(crate) fn judged_many(row: usize) -> Judgement
     requires { ⌜ row < 17 ⌝ }
 {
-    let a = many_size(row, 3);
-    let b = many_size(row, 4);
-    let c = many_size(row, 5);
-    let starts = ascending(a, many_size(row, 7));
-    let ends = ascending(b, many_size(row, 8));
+    let a = size(many(row, 3), 2049);
+    let b = size(many(row, 4), 2049);
+    let c = size(many(row, 5), 2049);
+    let starts = ascending(a, size(many(row, 7), 2049));
+    let ends = ascending(b, size(many(row, 8), 2049));
     let values: [i32; 2049] = [7; 2049];
-    let counts = many_counts(row);
-    let lists = many_lists(row);
+    let mut counts: [u32; 17] = [number(many(row, 13)); 17];
+    counts[0] = number(many(row, 12));
+    let lists = size(many(row, 10), 17);
+    let asked = kind(many(row, 0), many(row, 1));
     judge(
-        many_kind(row),
+        asked,
         &starts[..a],
         &ends[..b],
         &values[..c],
