@@ -4,9 +4,13 @@ mod seat;
 
 fn main() {
     io::write_all(1, b"seat\n");
-    seat::facts();
+    seat::ends();
+    seat::steps();
+    seat::checked_steps();
     io::write_all(1, b"instant\n");
-    instant::facts();
+    instant::ends();
+    instant::steps();
+    instant::checked_steps();
 }
 
 fn say(fact: &[u8], holds: bool) {

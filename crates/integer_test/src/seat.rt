@@ -17,42 +17,24 @@ const GREATEST: Point = u32::MAX;
 
 // Alike in both widths.
 
-pub fn facts() {
-    ends();
-    order();
-    equality();
-    steps_up();
-    steps_down();
-    checked_steps();
-}
-
-fn ends() {
+pub fn ends() {
     say(b"least", least() == LEAST);
     say(b"greatest", greatest() == GREATEST);
-}
-
-fn order() {
     say(b"least < greatest", less(least(), greatest()));
     say(b"not greatest < least", !less(greatest(), least()));
     say(b"not greatest < greatest", !less(greatest(), greatest()));
-}
-
-fn equality() {
     say(b"greatest = greatest", same(greatest(), greatest()));
     say(b"not least = greatest", !same(least(), greatest()));
 }
 
-fn steps_up() {
+pub fn steps() {
     say(b"least + 1", add_one(LEAST) == LEAST + 1);
     say(b"up to greatest", add_one(GREATEST - 1) == GREATEST);
-}
-
-fn steps_down() {
     say(b"greatest - 1", sub_one(GREATEST) == GREATEST - 1);
     say(b"down to least", sub_one(LEAST + 1) == LEAST);
 }
 
-fn checked_steps() {
+pub fn checked_steps() {
     say(b"after least", is_at(checked_add_one(LEAST), LEAST + 1));
     say(
         b"to greatest",

@@ -66,8 +66,14 @@ pub fn sizes_after(taken: Step, before: Sizes) -> Sizes
     ensures { λ r. ⌜ r ≡ sizes-after taken before ⌝ }
 {
     match taken {
-        Step::Start(_, _, _, sizes) => sizes,
-        Step::End(_, _, sizes) => sizes,
+        Step::Start(_, _, _, sizes) => Sizes {
+            starts: sizes.starts,
+            active_ends: sizes.active_ends,
+        },
+        Step::End(_, _, sizes) => Sizes {
+            starts: sizes.starts,
+            active_ends: sizes.active_ends,
+        },
         Step::Done => before,
     }
 }
