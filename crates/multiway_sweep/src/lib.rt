@@ -66,13 +66,13 @@ pub fn sizes_after(taken: Step, before: Sizes) -> Sizes
     ensures { λ r. ⌜ r ≡ sizes-after taken before ⌝ }
 {
     match taken {
-        Step::Start(_, _, _, sizes) => Sizes {
-            starts: sizes.starts,
-            active_ends: sizes.active_ends,
+        Step::Start(_, _, _, started) => Sizes {
+            starts: started.starts,
+            active_ends: started.active_ends,
         },
-        Step::End(_, _, sizes) => Sizes {
-            starts: sizes.starts,
-            active_ends: sizes.active_ends,
+        Step::End(_, _, ended) => Sizes {
+            starts: ended.starts,
+            active_ends: ended.active_ends,
         },
         Step::Done => before,
     }

@@ -12,5 +12,5 @@ sizes-after-spec =
     (λ c. search needs)
     (λ c. search needs)
     (λ c. let t : tie.After-taken = search in rw (t .taken .given .1) refl)
-    (λ c. search needs)
+    (λ c. let t : tie.After-taken2 = search in rw (t .taken2 .given .1) refl)
     (λ c. search needs))
