@@ -18,21 +18,21 @@ uint8_t guineatwirl_seat_list_events(
     uint8_t *out_list, size_t out_list_len, int32_t *out_value, size_t out_value_len,
     uint64_t *number);
 
-uint8_t guineatwirl_seat_inner_join(
+uint8_t guineatwirl_seat_two_way_inner_join(
     const uint32_t *starts, size_t starts_len, const uint32_t *ends, size_t ends_len,
     const int32_t *values, size_t values_len, const uint32_t *counts, size_t counts_len,
     uint32_t *out_start, size_t out_start_len, uint32_t *out_end, size_t out_end_len,
     int32_t *out_left, size_t out_left_len, int32_t *out_right, size_t out_right_len,
     uint8_t *out_presence, size_t out_presence_len, uint64_t *number);
 
-uint8_t guineatwirl_seat_left_join(
+uint8_t guineatwirl_seat_two_way_left_join(
     const uint32_t *starts, size_t starts_len, const uint32_t *ends, size_t ends_len,
     const int32_t *values, size_t values_len, const uint32_t *counts, size_t counts_len,
     uint32_t *out_start, size_t out_start_len, uint32_t *out_end, size_t out_end_len,
     int32_t *out_left, size_t out_left_len, int32_t *out_right, size_t out_right_len,
     uint8_t *out_presence, size_t out_presence_len, uint64_t *number);
 
-uint8_t guineatwirl_seat_full_join(
+uint8_t guineatwirl_seat_two_way_full_join(
     const uint32_t *starts, size_t starts_len, const uint32_t *ends, size_t ends_len,
     const int32_t *values, size_t values_len, const uint32_t *counts, size_t counts_len,
     uint32_t *out_start, size_t out_start_len, uint32_t *out_end, size_t out_end_len,
@@ -72,21 +72,21 @@ uint8_t guineatwirl_instant_list_events(
     uint8_t *out_list, size_t out_list_len, int32_t *out_value, size_t out_value_len,
     uint64_t *number);
 
-uint8_t guineatwirl_instant_inner_join(
+uint8_t guineatwirl_instant_two_way_inner_join(
     const int64_t *starts, size_t starts_len, const int64_t *ends, size_t ends_len,
     const int32_t *values, size_t values_len, const uint32_t *counts, size_t counts_len,
     int64_t *out_start, size_t out_start_len, int64_t *out_end, size_t out_end_len,
     int32_t *out_left, size_t out_left_len, int32_t *out_right, size_t out_right_len,
     uint8_t *out_presence, size_t out_presence_len, uint64_t *number);
 
-uint8_t guineatwirl_instant_left_join(
+uint8_t guineatwirl_instant_two_way_left_join(
     const int64_t *starts, size_t starts_len, const int64_t *ends, size_t ends_len,
     const int32_t *values, size_t values_len, const uint32_t *counts, size_t counts_len,
     int64_t *out_start, size_t out_start_len, int64_t *out_end, size_t out_end_len,
     int32_t *out_left, size_t out_left_len, int32_t *out_right, size_t out_right_len,
     uint8_t *out_presence, size_t out_presence_len, uint64_t *number);
 
-uint8_t guineatwirl_instant_full_join(
+uint8_t guineatwirl_instant_two_way_full_join(
     const int64_t *starts, size_t starts_len, const int64_t *ends, size_t ends_len,
     const int32_t *values, size_t values_len, const uint32_t *counts, size_t counts_len,
     int64_t *out_start, size_t out_start_len, int64_t *out_end, size_t out_end_len,

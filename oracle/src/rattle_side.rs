@@ -137,14 +137,14 @@ macro_rules! proved {
 proved!(
     u32,
     guineatwirl_seat_list_events,
-    [guineatwirl_seat_inner_join, guineatwirl_seat_left_join, guineatwirl_seat_full_join],
+    [guineatwirl_seat_two_way_inner_join, guineatwirl_seat_two_way_left_join, guineatwirl_seat_two_way_full_join],
     [guineatwirl_seat_multiway_inner_join, guineatwirl_seat_multiway_full_join],
     [guineatwirl_seat_multiway_union, guineatwirl_seat_multiway_symmetric_difference]
 );
 proved!(
     i64,
     guineatwirl_instant_list_events,
-    [guineatwirl_instant_inner_join, guineatwirl_instant_left_join, guineatwirl_instant_full_join],
+    [guineatwirl_instant_two_way_inner_join, guineatwirl_instant_two_way_left_join, guineatwirl_instant_two_way_full_join],
     [guineatwirl_instant_multiway_inner_join, guineatwirl_instant_multiway_full_join],
     [guineatwirl_instant_multiway_union, guineatwirl_instant_multiway_symmetric_difference]
 );
