@@ -1,5 +1,5 @@
 /* The joins and selections of tariff lists over lent columns. A column is passed as where it starts and its length.
-   Each function answers document 01's code, and writes the code's number to *number: with code 0 the
+   Each function answers a code of the rules (docs/RULES.md), and writes the code's number to *number: with code 0 the
    pieces written at the front of the output columns, whose later places keep their contents. Every
    refusal leaves all output columns untouched. Columns must not overlap, and number must not be null.
    n ranges have 2n events and give at most 2n - 1 pieces (1 for no ranges), so room for 4,096 is always

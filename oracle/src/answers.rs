@@ -13,7 +13,7 @@ const FILE: &str = concat!(env!("CARGO_MANIFEST_DIR"), "/answers.txt");
 const HEAD: &str = "\
 # The oracle's answers, as `tools/compare answers` prints them.
 # Well-formed lists went through the iterators of range-set-blaze 0.8.0; refusals 1 to 7 come
-# from the reading of document 01. The cases are the boundary sheet and random ones of a fixed
+# from the reading of the rules. The cases are the boundary sheet and random ones of a fixed
 # seed, of both widths.
 #
 # A case is a block of lines, and an empty line follows each block. A line is a name and its

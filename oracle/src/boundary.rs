@@ -1,4 +1,4 @@
-//! The boundary sheet of document 01, its answers copied out by hand.
+//! The boundary sheet of the rules, its answers copied out by hand.
 
 use crate::call::{Answer, Call, Lent, Operation, Pieces, Point, Priced, Sides, Tariff};
 use crate::case::{Case, Due};

@@ -1,4 +1,4 @@
-//! A call as document 01 has it: lent columns in, an answer and the output columns back.
+//! A call as the rules have it: lent columns in, an answer and the output columns back.
 
 use core::ops::Range;
 

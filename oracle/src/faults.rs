@@ -7,7 +7,7 @@ use crate::generator::{
 };
 use crate::random::Random;
 
-/// What can be wrong with a call, in the order in which document 01 judges it.
+/// What can be wrong with a call, in the order in which the rules judge it.
 #[derive(Clone, Copy, Debug, PartialEq, Eq)]
 pub enum Fault {
     TooManyLists,

@@ -1,4 +1,4 @@
-//! The oracle of the joins: the crate's own iterators, an independent reading of document 01, the
+//! The oracle of the joins: the crate's own iterators, an independent reading of the rules, the
 //! proved library, and the cases on which the three are held against each other.
 
 extern crate alloc;

@@ -5,7 +5,7 @@ use std::process::ExitCode;
 use oracle::compare::{self, Plan};
 
 const HELP: &str = "\
-oracle [SEED [CASES]]   compare the crate, the reading of document 01 and the proved library
+oracle [SEED [CASES]]   compare the crate, the reading of the rules and the proved library
 oracle answers          print the fixed list of answers (answers.txt)
 oracle --help           print this
 

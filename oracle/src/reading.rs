@@ -1,4 +1,4 @@
-//! Document 01 read point by point, for every input: no sweep, no heap, no state.
+//! The rules read point by point, for every input: no sweep, no heap, no state.
 
 use core::ops::Range;
 
@@ -7,7 +7,7 @@ use crate::call::{
     Priced, Sides,
 };
 
-/// What document 01 says that the call leaves behind.
+/// What the rules say that the call leaves behind.
 pub fn outcome<T: Point>(call: &Call<T>) -> Outcome<T> {
     let untouched = |answer| Outcome { answer, columns: call.columns.clone() };
     if let Some(answer) = refusal(call.operation, &call.lent) {
@@ -78,7 +78,7 @@ pub fn pieces<T: Point>(operation: Operation, lent: &Lent<T>) -> Pieces<T> {
     }
 }
 
-/// The combiners of document 01 over the values present.
+/// The combiners of the rules over the values present.
 fn combined(combiner: u8, present: &[i64]) -> i64 {
     let sum: i64 = present.iter().sum();
     let lists = present.len() as i64;

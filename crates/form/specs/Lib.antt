@@ -1,2 +1,2 @@
--- What the contracts of the form checker say beyond document 01. Assumes nothing.
+-- What the contracts of the form checker say beyond the rules. Assumes nothing.
 pub mod Shape

@@ -1,4 +1,4 @@
--- The laws of document 01: Parameters, Columns, Present, Fronts, Refusals, Operations, Said, Sweep and Events, TwoWay and Meets, Room. The other modules serve them.
+-- The laws of the rules: Parameters, Columns, Present, Fronts, Refusals, Operations, Said, Sweep and Events, TwoWay and Meets, Room. The other modules serve them.
 pub mod At
 pub mod Unique
 pub mod Push

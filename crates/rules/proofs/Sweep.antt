@@ -226,7 +226,7 @@ module _ {A : Type 0} where
   listed-length k [] = omega arith
   listed-length k (l ∷ ls) = omega (arith, length-append (own k l) (listed (suc k) ls), own-length k l, listed-length (suc k) ls)
 
-  -- the order of document 01 is the order of moments, then lists
+  -- the order of the rules is the order of moments, then lists
   before-yes : (a b : Event A) → Before a b → before a b ≡ true
   before-yes a b p = go (before a b) refl
     where

@@ -1,4 +1,4 @@
--- Document 01 as definitions: these modules are what a reader must believe. What proofs merely use stands under `Proving`.
+-- The rules as definitions: these modules are what a reader must believe. What proofs merely use stands under `Proving`.
 pub mod Piece
 pub mod Same
 pub mod Runs

@@ -1,4 +1,4 @@
--- What proofs use beside document 01's definitions. Assumes nothing.
+-- What proofs use beside the rules' definitions. Assumes nothing.
 pub mod Below
 pub mod Long
 pub mod Moments
