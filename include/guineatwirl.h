@@ -37,7 +37,7 @@ extern "C" {
 #define GUINEATWIRL_MAX_PIECES 4095
 #define GUINEATWIRL_MAX_EVENTS 4096
 
-/* No call takes more bytes of stack: the event listing, a two-way join, a many-way join or selection. */
+/* Bytes of stack that are enough for a call, measured and rounded up: the event listing, a two-way join, a many-way join or selection. */
 #define GUINEATWIRL_STACK_LISTING 2048
 #define GUINEATWIRL_STACK_TWO_WAY 1024
 #define GUINEATWIRL_STACK_MULTIWAY 4096
