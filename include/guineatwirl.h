@@ -7,8 +7,9 @@
    column, counts, says how many ranges each list has; its length is the number of lists. No lists, and lists without ranges, are
    allowed.
 
-   Each function answers a code of the rules (docs/RULES.md), and writes the code's number to *number: after GUINEATWIRL_DONE the pieces (or events) that it wrote at
-   the front of the output columns, whose later places keep their contents. A refusal leaves all output columns untouched.
+   Each function answers a code, and writes the code's number to *number: after GUINEATWIRL_DONE the pieces (or events) that it wrote at
+   the front of the output columns, whose later places keep their contents. A refusal leaves all output columns untouched. The rules
+   stand in docs/RULES.md of the library's repository.
 
    n ranges have 2n events, and give at most 2n - 1 pieces; only the inner join of no lists gives a piece without a range. Room is the
    length of the shortest output column. Room for the pieces that there are is enough; room for 2n - 1 saves the pass that counts them.
