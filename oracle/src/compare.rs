@@ -129,8 +129,12 @@ fn parts<T: Point>(plan: Plan) -> Vec<Part<T>> {
 fn check<T: Proved>(case: &Case<T>) -> Result<u8, String> {
     let call = &case.call;
     let read = guarded("reading", || reading::outcome(call))?;
-    let proved = rattle_side::outcome(call);
+    let proved = guarded("library", || rattle_side::outcome(call))?;
     agree("library", &proved, &read)?;
+    let from_lists = "library, from lists to vectors";
+    if let Some(found) = guarded(from_lists, || rattle_side::outcome_from_lists(call))? {
+        agree(from_lists, &found, &read)?;
+    }
     match &case.due {
         Due::TheCrate => agree("crate", &guarded("crate", || blaze_side::outcome(call))?, &read),
         Due::Refused(answer) => {

@@ -8,6 +8,7 @@ mod blaze;
 mod scaffold;
 
 pub mod answers;
+pub mod bare;
 pub mod blaze_side;
 pub mod boundary;
 pub mod call;

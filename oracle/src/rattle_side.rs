@@ -1,155 +1,21 @@
-//! Calls through the C functions of the proved library. A column is passed as where it starts and
-//! its length; the answer's code comes back, and its number in the last argument.
+//! Calls of the proved library through the package that hosts use: over lent columns, and from
+//! lists to vectors.
 
-use crate::call::{Answer, Call, Columns, Lent, Operation, Outcome, Point};
+use guineatwirl::{
+    Combiner, EventColumns, LentLists, Pair, PairColumns, Piece, PieceColumns, Refusal, lent,
+};
 
-type Listing<T> = unsafe extern "C" fn(
-    *const T,
-    usize,
-    *const T,
-    usize,
-    *const i32,
-    usize,
-    *const u32,
-    usize,
-    *mut u8,
-    usize,
-    *mut T,
-    usize,
-    *mut u8,
-    usize,
-    *mut i32,
-    usize,
-    *mut u64,
-) -> u8;
+use crate::call::{
+    Answer, Call, Columns, Event, Lent, Operation, Outcome, Pieces, Point, Priced, Sides,
+};
+use crate::reading;
 
-type TwoWay<T> = unsafe extern "C" fn(
-    *const T,
-    usize,
-    *const T,
-    usize,
-    *const i32,
-    usize,
-    *const u32,
-    usize,
-    *mut T,
-    usize,
-    *mut T,
-    usize,
-    *mut i32,
-    usize,
-    *mut i32,
-    usize,
-    *mut u8,
-    usize,
-    *mut u64,
-) -> u8;
+/// A point that the library has operations for.
+pub trait Proved: Point + guineatwirl::Point {}
 
-type Join<T> = unsafe extern "C" fn(
-    u8,
-    *const T,
-    usize,
-    *const T,
-    usize,
-    *const i32,
-    usize,
-    *const u32,
-    usize,
-    *mut T,
-    usize,
-    *mut T,
-    usize,
-    *mut i64,
-    usize,
-    *mut u64,
-) -> u8;
+impl<T: Point + guineatwirl::Point> Proved for T {}
 
-type Selection<T> = unsafe extern "C" fn(
-    *const T,
-    usize,
-    *const T,
-    usize,
-    *const i32,
-    usize,
-    *const u32,
-    usize,
-    *mut T,
-    usize,
-    *mut T,
-    usize,
-    *mut i64,
-    usize,
-    *mut u64,
-) -> u8;
-
-/// The functions of one width: the event listing, two-way inner, left and full, many-way inner
-/// and full, union and symmetric difference.
-pub trait Proved: Point {
-    const LISTING: Listing<Self>;
-    const TWO_WAY: [TwoWay<Self>; 3];
-    const JOINS: [Join<Self>; 2];
-    const SELECTIONS: [Selection<Self>; 2];
-}
-
-macro_rules! proved {
-    (
-        $point:ty, $listing:ident, [$($two_way:ident),*], [$($join:ident),*], [$($selection:ident),*]
-    ) => {
-        unsafe extern "C" {
-            fn $listing(
-                starts: *const $point, starts_len: usize, ends: *const $point, ends_len: usize,
-                values: *const i32, values_len: usize, counts: *const u32, counts_len: usize,
-                out_kind: *mut u8, out_kind_len: usize, out_point: *mut $point, out_point_len: usize,
-                out_list: *mut u8, out_list_len: usize, out_value: *mut i32, out_value_len: usize,
-                number: *mut u64,
-            ) -> u8;
-            $(fn $two_way(
-                starts: *const $point, starts_len: usize, ends: *const $point, ends_len: usize,
-                values: *const i32, values_len: usize, counts: *const u32, counts_len: usize,
-                out_start: *mut $point, out_start_len: usize, out_end: *mut $point, out_end_len: usize,
-                out_left: *mut i32, out_left_len: usize, out_right: *mut i32, out_right_len: usize,
-                out_presence: *mut u8, out_presence_len: usize, number: *mut u64,
-            ) -> u8;)*
-            $(fn $join(
-                combiner: u8,
-                starts: *const $point, starts_len: usize, ends: *const $point, ends_len: usize,
-                values: *const i32, values_len: usize, counts: *const u32, counts_len: usize,
-                out_start: *mut $point, out_start_len: usize, out_end: *mut $point, out_end_len: usize,
-                out_value: *mut i64, out_value_len: usize, number: *mut u64,
-            ) -> u8;)*
-            $(fn $selection(
-                starts: *const $point, starts_len: usize, ends: *const $point, ends_len: usize,
-                values: *const i32, values_len: usize, counts: *const u32, counts_len: usize,
-                out_start: *mut $point, out_start_len: usize, out_end: *mut $point, out_end_len: usize,
-                out_value: *mut i64, out_value_len: usize, number: *mut u64,
-            ) -> u8;)*
-        }
-
-        impl Proved for $point {
-            const LISTING: Listing<Self> = $listing;
-            const TWO_WAY: [TwoWay<Self>; 3] = [$($two_way),*];
-            const JOINS: [Join<Self>; 2] = [$($join),*];
-            const SELECTIONS: [Selection<Self>; 2] = [$($selection),*];
-        }
-    };
-}
-
-proved!(
-    u32,
-    guineatwirl_seat_list_events,
-    [guineatwirl_seat_two_way_inner_join, guineatwirl_seat_two_way_left_join, guineatwirl_seat_two_way_full_join],
-    [guineatwirl_seat_multiway_inner_join, guineatwirl_seat_multiway_full_join],
-    [guineatwirl_seat_multiway_union, guineatwirl_seat_multiway_symmetric_difference]
-);
-proved!(
-    i64,
-    guineatwirl_instant_list_events,
-    [guineatwirl_instant_two_way_inner_join, guineatwirl_instant_two_way_left_join, guineatwirl_instant_two_way_full_join],
-    [guineatwirl_instant_multiway_inner_join, guineatwirl_instant_multiway_full_join],
-    [guineatwirl_instant_multiway_union, guineatwirl_instant_multiway_symmetric_difference]
-);
-
-/// The outcome of a call.
+/// The outcome of a call over lent columns.
 pub fn outcome<T: Proved>(call: &Call<T>) -> Outcome<T> {
     let mut columns = call.columns.clone();
     let answer = answer(call.operation, &call.lent, &mut columns);
@@ -157,147 +23,125 @@ pub fn outcome<T: Proved>(call: &Call<T>) -> Outcome<T> {
 }
 
 /// Writes into the columns, and answers.
-pub fn answer<T: Proved>(
+pub fn answer<T: Proved>(operation: Operation, lent: &Lent<T>, columns: &mut Columns<T>) -> Answer {
+    let Lent { starts, ends, values, counts } = lent;
+    let lent = LentLists { starts, ends, values, counts };
+    let told = match columns {
+        Columns::Events { kinds, points, lists, values } => {
+            lent::list_events(lent, &mut EventColumns { kinds, points, lists, values })
+        }
+        Columns::Sides { starts, ends, lefts, rights, presences } => {
+            two_way(operation, lent, &mut PairColumns { starts, ends, lefts, rights, presences })
+        }
+        Columns::Priced { starts, ends, values } => {
+            multiway(operation, lent, &mut PieceColumns { starts, ends, values })
+        }
+    };
+    told.map_or_else(answered, |written| Answer::new(0, written))
+}
+
+fn two_way<T: Proved>(
     operation: Operation,
-    lent: &Lent<T>,
-    columns: &mut Columns<T>,
-) -> Answer {
+    lists: LentLists<'_, T>,
+    columns: &mut PairColumns<'_, T>,
+) -> Result<usize, Refusal> {
     match operation {
-        Operation::Events => listing(T::LISTING, lent, columns),
-        Operation::TwoWayInner => two_way(T::TWO_WAY[0], lent, columns),
-        Operation::TwoWayLeft => two_way(T::TWO_WAY[1], lent, columns),
-        Operation::TwoWayFull => two_way(T::TWO_WAY[2], lent, columns),
-        Operation::Inner(combiner) => join(T::JOINS[0], combiner, lent, columns),
-        Operation::Full(combiner) => join(T::JOINS[1], combiner, lent, columns),
-        Operation::Union => selection(T::SELECTIONS[0], lent, columns),
-        Operation::SymmetricDifference => selection(T::SELECTIONS[1], lent, columns),
+        Operation::TwoWayInner => lent::two_way_inner_join(lists, columns),
+        Operation::TwoWayLeft => lent::two_way_left_join(lists, columns),
+        Operation::TwoWayFull => lent::two_way_full_join(lists, columns),
+        _ => panic!("the columns are another operation's"),
     }
 }
 
-fn listing<T: Proved>(function: Listing<T>, lent: &Lent<T>, columns: &mut Columns<T>) -> Answer {
-    let Columns::Events { kinds, points, lists, values } = columns else {
-        panic!("the columns are another operation's");
-    };
-    let mut number = 0;
-    // Sound: each pointer goes with the length of the vector that it points into.
-    let code = unsafe {
-        function(
-            lent.starts.as_ptr(),
-            lent.starts.len(),
-            lent.ends.as_ptr(),
-            lent.ends.len(),
-            lent.values.as_ptr(),
-            lent.values.len(),
-            lent.counts.as_ptr(),
-            lent.counts.len(),
-            kinds.as_mut_ptr(),
-            kinds.len(),
-            points.as_mut_ptr(),
-            points.len(),
-            lists.as_mut_ptr(),
-            lists.len(),
-            values.as_mut_ptr(),
-            values.len(),
-            &mut number,
-        )
-    };
-    Answer { code, number }
+fn multiway<T: Proved>(
+    operation: Operation,
+    lists: LentLists<'_, T>,
+    columns: &mut PieceColumns<'_, T>,
+) -> Result<usize, Refusal> {
+    match operation {
+        Operation::Inner(combiner) => lent::multiway_inner_join(combiner, lists, columns),
+        Operation::Full(combiner) => lent::multiway_full_join(combiner, lists, columns),
+        Operation::Union => lent::multiway_union(lists, columns),
+        Operation::SymmetricDifference => lent::multiway_symmetric_difference(lists, columns),
+        _ => panic!("the columns are another operation's"),
+    }
 }
 
-fn two_way<T: Proved>(function: TwoWay<T>, lent: &Lent<T>, columns: &mut Columns<T>) -> Answer {
-    let Columns::Sides { starts, ends, lefts, rights, presences } = columns else {
-        panic!("the columns are another operation's");
-    };
-    let mut number = 0;
-    // Sound: each pointer goes with the length of the vector that it points into.
-    let code = unsafe {
-        function(
-            lent.starts.as_ptr(),
-            lent.starts.len(),
-            lent.ends.as_ptr(),
-            lent.ends.len(),
-            lent.values.as_ptr(),
-            lent.values.len(),
-            lent.counts.as_ptr(),
-            lent.counts.len(),
-            starts.as_mut_ptr(),
-            starts.len(),
-            ends.as_mut_ptr(),
-            ends.len(),
-            lefts.as_mut_ptr(),
-            lefts.len(),
-            rights.as_mut_ptr(),
-            rights.len(),
-            presences.as_mut_ptr(),
-            presences.len(),
-            &mut number,
-        )
-    };
-    Answer { code, number }
+fn answered(refusal: Refusal) -> Answer {
+    Answer { code: refusal.code(), number: refusal.number() }
 }
 
-fn join<T: Proved>(
-    function: Join<T>,
-    combiner: u8,
-    lent: &Lent<T>,
-    columns: &mut Columns<T>,
-) -> Answer {
-    let Columns::Priced { starts, ends, values } = columns else {
-        panic!("the columns are another operation's");
+/// A list of tariffs as the package takes it.
+pub type List<T> = Vec<guineatwirl::Tariff<T>>;
+
+/// The lists of lent columns, or none where the columns do not go together.
+pub fn lists<T: Point>(lent: &Lent<T>) -> Option<Vec<List<T>>> {
+    let ranges = lent.starts.len();
+    let counted: u128 = lent.counts.iter().map(|&count| u128::from(count)).sum();
+    let tariff = |place: usize| guineatwirl::Tariff {
+        start: lent.starts[place],
+        end: lent.ends[place],
+        value: lent.values[place],
     };
-    let mut number = 0;
-    // Sound: each pointer goes with the length of the vector that it points into.
-    let code = unsafe {
-        function(
-            combiner,
-            lent.starts.as_ptr(),
-            lent.starts.len(),
-            lent.ends.as_ptr(),
-            lent.ends.len(),
-            lent.values.as_ptr(),
-            lent.values.len(),
-            lent.counts.as_ptr(),
-            lent.counts.len(),
-            starts.as_mut_ptr(),
-            starts.len(),
-            ends.as_mut_ptr(),
-            ends.len(),
-            values.as_mut_ptr(),
-            values.len(),
-            &mut number,
-        )
-    };
-    Answer { code, number }
+    (lent.ends.len() == ranges && lent.values.len() == ranges && counted == ranges as u128)
+        .then(|| lent.list_places().into_iter().map(|list| list.map(tariff).collect()).collect())
 }
 
-fn selection<T: Proved>(
-    function: Selection<T>,
-    lent: &Lent<T>,
-    columns: &mut Columns<T>,
-) -> Answer {
-    let Columns::Priced { starts, ends, values } = columns else {
-        panic!("the columns are another operation's");
+/// What a call would leave in its columns by what the functions from lists to vectors find. None
+/// where it cannot be put to them: columns that do not go together, an unknown combiner, a two-way
+/// join of other than two lists.
+pub fn outcome_from_lists<T: Proved>(call: &Call<T>) -> Option<Outcome<T>> {
+    let lists = lists(&call.lent)?;
+    let found = match call.operation {
+        Operation::Events => guineatwirl::list_events(&lists).map(events),
+        Operation::Inner(combiner) => {
+            guineatwirl::multiway_inner_join(Combiner::from_number(combiner)?, &lists).map(priced)
+        }
+        Operation::Full(combiner) => {
+            guineatwirl::multiway_full_join(Combiner::from_number(combiner)?, &lists).map(priced)
+        }
+        Operation::Union => guineatwirl::multiway_union(&lists).map(priced),
+        Operation::SymmetricDifference => {
+            guineatwirl::multiway_symmetric_difference(&lists).map(priced)
+        }
+        Operation::TwoWayInner | Operation::TwoWayLeft | Operation::TwoWayFull => {
+            let [left, right] = &lists[..] else { return None };
+            pairs_of(call.operation, left, right).map(sides)
+        }
     };
-    let mut number = 0;
-    // Sound: each pointer goes with the length of the vector that it points into.
-    let code = unsafe {
-        function(
-            lent.starts.as_ptr(),
-            lent.starts.len(),
-            lent.ends.as_ptr(),
-            lent.ends.len(),
-            lent.values.as_ptr(),
-            lent.values.len(),
-            lent.counts.as_ptr(),
-            lent.counts.len(),
-            starts.as_mut_ptr(),
-            starts.len(),
-            ends.as_mut_ptr(),
-            ends.len(),
-            values.as_mut_ptr(),
-            values.len(),
-            &mut number,
-        )
+    Some(reading::left_behind(found.map_err(answered), &call.columns))
+}
+
+fn pairs_of<T: Proved>(
+    operation: Operation,
+    left: &List<T>,
+    right: &List<T>,
+) -> Result<Vec<Pair<T>>, Refusal> {
+    match operation {
+        Operation::TwoWayInner => guineatwirl::two_way_inner_join(left, right),
+        Operation::TwoWayLeft => guineatwirl::two_way_left_join(left, right),
+        _ => guineatwirl::two_way_full_join(left, right),
+    }
+}
+
+fn events<T>(events: Vec<guineatwirl::Event<T>>) -> Pieces<T> {
+    let event = |event| match event {
+        guineatwirl::Event::Start { point, list, value } => {
+            Event { kind: 0, point, list: list as u8, value }
+        }
+        guineatwirl::Event::End { point, list } => {
+            Event { kind: 1, point, list: list as u8, value: 0 }
+        }
     };
-    Answer { code, number }
+    Pieces::Events(events.into_iter().map(event).collect())
+}
+
+fn sides<T>(pairs: Vec<Pair<T>>) -> Pieces<T> {
+    let sides = |Pair { start, end, left, right }| Sides { start, end, left, right };
+    Pieces::Sides(pairs.into_iter().map(sides).collect())
+}
+
+fn priced<T>(pieces: Vec<Piece<T>>) -> Pieces<T> {
+    let priced = |Piece { start, end, value }| Priced { start, end, value };
+    Pieces::Priced(pieces.into_iter().map(priced).collect())
 }

@@ -9,16 +9,24 @@ use crate::call::{
 
 /// What the rules say that the call leaves behind.
 pub fn outcome<T: Point>(call: &Call<T>) -> Outcome<T> {
-    let untouched = |answer| Outcome { answer, columns: call.columns.clone() };
-    if let Some(answer) = refusal(call.operation, &call.lent) {
-        return untouched(answer);
+    let found = match refusal(call.operation, &call.lent) {
+        Some(answer) => Err(answer),
+        None => Ok(pieces(call.operation, &call.lent)),
+    };
+    left_behind(found, &call.columns)
+}
+
+/// What a call leaves behind for which these pieces were found, or a refusal.
+pub fn left_behind<T: Point>(found: Result<Pieces<T>, Answer>, columns: &Columns<T>) -> Outcome<T> {
+    let untouched = |answer| Outcome { answer, columns: columns.clone() };
+    match found {
+        Err(answer) => untouched(answer),
+        Ok(pieces) if pieces.count() > columns.room() => untouched(Answer::new(8, pieces.count())),
+        Ok(pieces) => {
+            let answer = Answer::new(0, pieces.count());
+            Outcome { answer, columns: written(&pieces, columns) }
+        }
     }
-    let pieces = pieces(call.operation, &call.lent);
-    if pieces.count() > call.columns.room() {
-        return untouched(Answer::new(8, pieces.count()));
-    }
-    let answer = Answer::new(0, pieces.count());
-    Outcome { answer, columns: written(&pieces, &call.columns) }
 }
 
 /// The refusal due before any piece is looked for, in the order 1, 2, 4, 3, 7, 5 and 6.

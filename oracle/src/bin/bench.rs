@@ -1,15 +1,16 @@
 //! The benchmark: the proved library beside the crate, in one process, on the same lists. Each time
 //! is the best of many; the library's include its form check and all its passes: with room for the
 //! most pieces that there can be, and with room for just the pieces that there are, where a join
-//! counts them first. The crate's iterators are drained into the same columns. What is printed is
-//! what docs/PERFORMANCE.md has: a summary, and the table.
+//! counts them first. The library is called over the lent columns of its Rust package, and one
+//! operation also without the package. The crate's iterators are drained into the same columns.
+//! What is printed is what docs/PERFORMANCE.md has: a summary, and the table.
 
 use std::hint::black_box;
 use std::time::{Duration, Instant};
 
 use oracle::call::{Columns, Lent, MOST_RANGES, Operation, Tariff};
 use oracle::random::Random;
-use oracle::{blaze_side, rattle_side};
+use oracle::{bare, blaze_side, rattle_side};
 
 /// How long each side of a row is run.
 const SPAN: Duration = Duration::from_millis(150);
@@ -40,7 +41,8 @@ fn main() {
     }
     let selections = [Operation::Union, Operation::SymmetricDifference];
     let selections = rows(&selections, &[2, 4, 16], MOST_RANGES);
-    println!("{}", summary(&two_way, &listing, &joins, &selections));
+    print!("{}", summary(&two_way, &listing, &joins, &selections));
+    println!("{}", packaging());
     println!(
         "| operation | lists | ranges | strewn | crate | library | counted | library / crate | counted / crate |"
     );
@@ -136,6 +138,30 @@ fn summary(two_way: &[Row], listing: &[Row], joins: &[Row], selections: &[Row]) 
         growth(joins, (2, MOST_RANGES), (16, MOST_RANGES)),
         growth(selections, (2, MOST_RANGES), (16, MOST_RANGES)),
         growth(joins, (4, MOST_RANGES / 8), (4, MOST_RANGES)),
+    )
+}
+
+/// What the package adds to a C function, over lent columns and from lists to a vector.
+fn packaging() -> String {
+    let (operation, combiner) = (Operation::Full(1), guineatwirl::Combiner::Sum);
+    let (strewn, gap, length) = STREWN[0];
+    let lent = &lists(4, MOST_RANGES, gap, length);
+    let of_lists = rattle_side::lists(lent).expect("the columns go together");
+    let mut columns = columns(operation, 2 * MOST_RANGES);
+    let answers = [
+        bare::full_join(combiner.number(), lent, &mut columns),
+        rattle_side::answer(operation, lent, &mut columns),
+    ];
+    assert_eq!(answers[0], answers[1], "the package answers what the C function does");
+    let bare = best(MOST_RANGES, || bare::full_join(combiner.number(), lent, &mut columns));
+    let packaged = best(MOST_RANGES, || rattle_side::answer(operation, lent, &mut columns));
+    let vector = best(MOST_RANGES, || guineatwirl::multiway_full_join(combiner, &of_lists));
+    format!(
+        "- A range of a {}, of 4 lists, {strewn}, takes {bare:.1} ns through the bare C function, {:.2} times as long \
+         through the package's lent columns ({packaged:.1} ns) and {:.2} times as long from lists to a vector ({vector:.1} ns).\n",
+        title(operation),
+        packaged / bare,
+        vector / bare,
     )
 }
 

@@ -1,0 +1,173 @@
+//! The C functions of the proved library as functions over slices, and all `unsafe` of the
+//! package.
+//!
+//! The declarations are those of `include/guineatwirl.h`. A column is passed as where it starts and
+//! its length; the answer's code comes back, and its number goes to the last argument.
+
+#![allow(unsafe_code)]
+
+use crate::{EventColumns, LentLists, PairColumns, PieceColumns};
+
+/// What a C function answers: document 01's code and number.
+#[derive(Clone, Copy, Debug, PartialEq, Eq)]
+pub struct Answer {
+    pub code: u8,
+    pub number: u64,
+}
+
+/// The functions of one width. They answer as the library does, and write what it writes.
+pub trait Functions: Sized {
+    fn list_events(lists: LentLists<'_, Self>, out: &mut EventColumns<'_, Self>) -> Answer;
+    fn two_way_inner_join(lists: LentLists<'_, Self>, out: &mut PairColumns<'_, Self>) -> Answer;
+    fn two_way_left_join(lists: LentLists<'_, Self>, out: &mut PairColumns<'_, Self>) -> Answer;
+    fn two_way_full_join(lists: LentLists<'_, Self>, out: &mut PairColumns<'_, Self>) -> Answer;
+    fn multiway_inner_join(
+        combiner: u8,
+        lists: LentLists<'_, Self>,
+        out: &mut PieceColumns<'_, Self>,
+    ) -> Answer;
+    fn multiway_full_join(
+        combiner: u8,
+        lists: LentLists<'_, Self>,
+        out: &mut PieceColumns<'_, Self>,
+    ) -> Answer;
+    fn multiway_union(lists: LentLists<'_, Self>, out: &mut PieceColumns<'_, Self>) -> Answer;
+    fn multiway_symmetric_difference(
+        lists: LentLists<'_, Self>,
+        out: &mut PieceColumns<'_, Self>,
+    ) -> Answer;
+}
+
+/// Declares the C functions of one width, by what they write.
+macro_rules! declare {
+    (
+        $point:ty; events: $($events:ident)*; pairs: $($pairs:ident)*; joins: $($joins:ident)*;
+        selections: $($selections:ident)*
+    ) => {
+        unsafe extern "C" {
+            $(fn $events(
+                starts: *const $point, starts_len: usize, ends: *const $point, ends_len: usize,
+                values: *const i32, values_len: usize, counts: *const u32, counts_len: usize,
+                out_kind: *mut u8, out_kind_len: usize,
+                out_point: *mut $point, out_point_len: usize,
+                out_list: *mut u8, out_list_len: usize,
+                out_value: *mut i32, out_value_len: usize, number: *mut u64,
+            ) -> u8;)*
+            $(fn $pairs(
+                starts: *const $point, starts_len: usize, ends: *const $point, ends_len: usize,
+                values: *const i32, values_len: usize, counts: *const u32, counts_len: usize,
+                out_start: *mut $point, out_start_len: usize,
+                out_end: *mut $point, out_end_len: usize,
+                out_left: *mut i32, out_left_len: usize, out_right: *mut i32, out_right_len: usize,
+                out_presence: *mut u8, out_presence_len: usize, number: *mut u64,
+            ) -> u8;)*
+            $(fn $joins(
+                combiner: u8,
+                starts: *const $point, starts_len: usize, ends: *const $point, ends_len: usize,
+                values: *const i32, values_len: usize, counts: *const u32, counts_len: usize,
+                out_start: *mut $point, out_start_len: usize,
+                out_end: *mut $point, out_end_len: usize,
+                out_value: *mut i64, out_value_len: usize, number: *mut u64,
+            ) -> u8;)*
+            $(fn $selections(
+                starts: *const $point, starts_len: usize, ends: *const $point, ends_len: usize,
+                values: *const i32, values_len: usize, counts: *const u32, counts_len: usize,
+                out_start: *mut $point, out_start_len: usize,
+                out_end: *mut $point, out_end_len: usize,
+                out_value: *mut i64, out_value_len: usize, number: *mut u64,
+            ) -> u8;)*
+        }
+    };
+}
+
+/// Calls a C function with lent lists and with columns to write to, and perhaps a combiner first.
+macro_rules! call {
+    ($function:ident, $lists:ident, [$($column:expr),*] $(, $combiner:ident)?) => {{
+        let mut number = 0;
+        // Sound: each pointer goes with the length of the slice that it points into. The slices
+        // that are written are lent to this call alone, so no two columns overlap, and neither
+        // does `number`. The C function reads and writes within the lengths, and keeps no pointer.
+        let code = unsafe {
+            $function(
+                $($combiner,)?
+                $lists.starts.as_ptr(), $lists.starts.len(),
+                $lists.ends.as_ptr(), $lists.ends.len(),
+                $lists.values.as_ptr(), $lists.values.len(),
+                $lists.counts.as_ptr(), $lists.counts.len(),
+                $($column.as_mut_ptr(), $column.len(),)*
+                &mut number,
+            )
+        };
+        Answer { code, number }
+    }};
+}
+
+/// Makes the C functions of one width the functions of its points.
+macro_rules! functions {
+    (
+        $point:ty;
+        events: $($events:ident = $c_events:ident)*;
+        pairs: $($pairs:ident = $c_pairs:ident)*;
+        joins: $($joins:ident = $c_joins:ident)*;
+        selections: $($selections:ident = $c_selections:ident)*
+    ) => {
+        declare!(
+            $point; events: $($c_events)*; pairs: $($c_pairs)*; joins: $($c_joins)*;
+            selections: $($c_selections)*
+        );
+
+        impl Functions for $point {
+            $(fn $events(lists: LentLists<'_, Self>, out: &mut EventColumns<'_, Self>) -> Answer {
+                call!($c_events, lists, [out.kinds, out.points, out.lists, out.values])
+            })*
+            $(fn $pairs(lists: LentLists<'_, Self>, out: &mut PairColumns<'_, Self>) -> Answer {
+                call!($c_pairs, lists, [out.starts, out.ends, out.lefts, out.rights, out.presences])
+            })*
+            $(fn $joins(
+                combiner: u8,
+                lists: LentLists<'_, Self>,
+                out: &mut PieceColumns<'_, Self>,
+            ) -> Answer {
+                call!($c_joins, lists, [out.starts, out.ends, out.values], combiner)
+            })*
+            $(fn $selections(
+                lists: LentLists<'_, Self>,
+                out: &mut PieceColumns<'_, Self>,
+            ) -> Answer {
+                call!($c_selections, lists, [out.starts, out.ends, out.values])
+            })*
+        }
+    };
+}
+
+functions! {
+    u32;
+    events:
+        list_events = guineatwirl_seat_list_events;
+    pairs:
+        two_way_inner_join = guineatwirl_seat_two_way_inner_join
+        two_way_left_join = guineatwirl_seat_two_way_left_join
+        two_way_full_join = guineatwirl_seat_two_way_full_join;
+    joins:
+        multiway_inner_join = guineatwirl_seat_multiway_inner_join
+        multiway_full_join = guineatwirl_seat_multiway_full_join;
+    selections:
+        multiway_union = guineatwirl_seat_multiway_union
+        multiway_symmetric_difference = guineatwirl_seat_multiway_symmetric_difference
+}
+
+functions! {
+    i64;
+    events:
+        list_events = guineatwirl_instant_list_events;
+    pairs:
+        two_way_inner_join = guineatwirl_instant_two_way_inner_join
+        two_way_left_join = guineatwirl_instant_two_way_left_join
+        two_way_full_join = guineatwirl_instant_two_way_full_join;
+    joins:
+        multiway_inner_join = guineatwirl_instant_multiway_inner_join
+        multiway_full_join = guineatwirl_instant_multiway_full_join;
+    selections:
+        multiway_union = guineatwirl_instant_multiway_union
+        multiway_symmetric_difference = guineatwirl_instant_multiway_symmetric_difference
+}
