@@ -8,7 +8,7 @@
 
 use crate::{EventColumns, LentLists, PairColumns, PieceColumns};
 
-/// What a C function answers: document 01's code and number.
+/// What a C function answers: the code and number of the rules.
 #[derive(Clone, Copy, Debug, PartialEq, Eq)]
 pub struct Answer {
     pub code: u8,
