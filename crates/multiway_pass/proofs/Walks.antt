@@ -144,16 +144,6 @@ module _ {A B C : Type 0} {k : Walk A B C} where
         next-laid : d' ≡ lay-if (k .lay) (k .write) (k .from) (g .done ++ next) (k .columns)
         next-laid = u .is ∙ rw (g .laid, g .counted) (if-append (g .ok .takes) (k .from) (k .write) (g .done) next (k .columns) next-roomy)
 
-    -- nothing is put
-    still : Upto k p ((g .done ++ []) ++ waiting)
-    still = rw append-nil (g .below)
-
-    pub still-puttable : Puttable {B = B} (k .points) (least (k .lengths d)) (k .write) place []
-    still-puttable = next-puttable [] waiting (g .upto) still
-
-    pub still-going : {d' : C} {place' : ℕ} → PutPieces (k .lay) (k .write) place [] d d' place' → Going k d' waiting place' p
-    still-going u = record { ok = g .ok; upto = g .upto; done = g .done ++ []; counted = next-counted [] waiting (g .upto) still u; laid = next-laid [] waiting (g .upto) still u; below = still; first = λ e. append-nil (g .done) ∙ g .first e }
-
     -- points of which the rule says nothing
     pub skipped : (q : ℕ) → p ≤ q → q ≤ k .points → ((r : ℕ) → p ≤ r → r < q → says (k .rule) (k .lists) r ≡ none) → Going k d waiting place q
     skipped q h m f = record { ok = g .ok; upto = m; done = g .done; counted = g .counted; laid = g .laid; below = skip-below p q (g .done ++ waiting) (says (k .rule) (k .lists)) (g .below) h f; first = g .first }

@@ -10,6 +10,7 @@ use lib.IntN.{ℤ, pos}
 use lib.ListN.{length, getD, replicate, length-map, List·getD-map}
 use Rattle.rules.specs.Piece.{Piece, Range, column, present, there, AllWellFormed, Within}
 use Rattle.rules.specs.Lists.{Width, Lent, lists}
+use Rattle.rules.specs.Same.{eqℤ}
 use Rattle.rules.specs.Runs.{says}
 use Rattle.rules.specs.Answer.{least}
 use Rattle.rules.specs.Merged.{Merged, lengths, lay}
@@ -39,18 +40,17 @@ use Rattle.multiway_sweep.specs.declared.Sizes.{Sizes}
 use Rattle.multiway_sweep.specs.declared.Step.{Step}
 use Rattle.multiway_sweep.specs.declared.Step.the-variants.{Start, End, Done}
 use Rattle.multiway_sweep.proofs.Front.{front-first, front-length, front-column, front-last, front-take, front-list, front-point, front-starts, front-ends}
-use Rattle.multiway_pass.specs.Pieces.{waiting}
+use Rattle.multiway_pass.specs.Pieces.{PushedOn}
 use Rattle.multiway_pass.specs.Passes.{Puttable, PutPieces}
 use Rattle.multiway_sweep.proofs.Begun.{events-count, begun}
 use Rattle.multiway_pass.proofs.Merges.{lists-few, merge}
-use Rattle.multiway_pass.proofs.Walks.{Walk, Going, skipped, still-puttable, still-going, turn-silent, turn-apart, turn-puttable, turn-more}
+use Rattle.multiway_pass.proofs.Walks.{Walk, Going, skipped, turn-silent, turn-apart, turn-puttable, turn-more}
 use Rattle.select_pass.specs.Stretches.{StretchesTo, StartsAfter}
-use Rattle.select_pass.specs.Selections.{Held, Carried, chosen, After, Recorded, Fits, taken}
+use Rattle.select_pass.specs.Selections.{Held, Carried, chosen, recorded, Fits, taken}
 use Rattle.select_pass.specs.declared.StretchStart.{StretchStart}
 use Rattle.select_pass.specs.declared.StretchStart.the-variants.{At, Nowhere}
 use Rattle.select_pass.specs.declared.StretchBefore.{StretchBefore}
 use Rattle.select_pass.specs.declared.StretchBefore.the-variants.{Of, Nothing}
-use Rattle.select_pass.specs.declared.Emitted.{Emitted}
 
 -- where a stretch starts: at p; or no list has anything, or p is past the line
 abbrev pub StartsFrom : ℕ → List (List Range) → Held → ℕ → StretchStart → Type 0
@@ -162,28 +162,39 @@ module _ {P : Type 0} {w : Width P} {l : Lent P} {a : Arrays} {z : Sizes} {curre
         go Nowhere h (inl i) = ap rule i ∙ r
         go Nowhere h (inr i) = absurd (omega (arith, inside))
 
-    -- what is done after it, and what is pending then
+    -- the piece of the stretch before it, or none
     module _ (adm : Admission) (write : Bool) (first : Merged P) {d : Merged P} {waits : List Range} {place : ℕ} (i : Going (selection w adm l write first) d waits place p) where
-      pub emit-after : (s : StretchBefore) → StretchesTo e from s → After s waits
-      emit-after (Of y) t = turn-apart i (stretch y t)
-      emit-after Nothing t = tt
+      abbrev Then : Merged P → List Range → ℕ → Type 0
+      Then d' waits' place' = Going (selection w adm l write first) d' waits' place' (edge x)
 
-      pub emit-puttable : (s : StretchBefore) → StretchesTo e from s → (r : Emitted) → Recorded (chosen adm (g .act)) s waits r → Puttable (w .points) (least (lengths d)) write place (waiting (r .done))
-      emit-puttable Nothing t r h = rw (h .0) (still-puttable i)
-      emit-puttable (Of y) t r h = go (chosen adm (g .act)) refl h
+      -- there is none: nothing is said up to the event
+      pub none-going : (s : StretchBefore) → StretchesTo e from s → [] ≡ recorded (chosen adm (g .act)) s → Then d waits place
+      none-going Nothing t h = skipped i (edge x) upto inside (silent (chosen adm) (i .ok .nothing) t)
+      none-going (Of y) t h = subst (Going (selection w adm l write first) d waits place) (bounds y t .2) (go (chosen adm (g .act)) refl h)
         where
-          go : (o : Option ℤ) → chosen adm (g .act) ≡ o → Recorded o (Of y) waits r → Puttable (w .points) (least (lengths d)) write place (waiting (r .done))
-          go none u h = rw (h .0) (still-puttable i)
-          go (some v) u h = turn-puttable i (stretch y t) (h .2) refl refl u
+          go : (o : Option ℤ) → chosen adm (g .act) ≡ o → [] ≡ recorded o (Of y) → Going (selection w adm l write first) d waits place (y .end + 1)
+          go none v h = turn-silent i (stretch y t) v
+          go (some b) v h = absurd (omega (arith, ap length h))
 
-      module _ {d' : Merged P} {place' : ℕ} where
-        pub emit-going : (s : StretchBefore) → StretchesTo e from s → (r : Emitted) → Recorded (chosen adm (g .act)) s waits r → PutPieces (lay w) write place (waiting (r .done)) d d' place' → Going (selection w adm l write first) d' (waiting (r .pending)) place' (edge x)
-        emit-going Nothing t r h u = rw (h .1) (skipped (still-going i (rw (h .0) at u)) (edge x) upto inside (silent (chosen adm) (i .ok .nothing) t))
-        emit-going (Of y) t r h u = subst (Going (selection w adm l write first) d' (waiting (r .pending)) place') (bounds y t .2) (go (chosen adm (g .act)) refl h)
+      -- there is one: it is pushed to what waits, and what is done then is put
+      module _ (s : StretchBefore) (t : StretchesTo e from s) {y : Range} (h : y ∷ [] ≡ recorded (chosen adm (g .act)) s) where
+        shown : (z : Span) × StretchesTo e from (Of z) × (y .start ≡ z .start) × (y .end ≡ z .end) × (chosen adm (g .act) ≡ some (y .value))
+        shown = go s (chosen adm (g .act)) refl t h
           where
-            go : (o : Option ℤ) → chosen adm (g .act) ≡ o → Recorded o (Of y) waits r → Going (selection w adm l write first) d' (waiting (r .pending)) place' (y .end + 1)
-            go none v h = rw (h .1) (turn-silent (still-going i (rw (h .0) at u)) (stretch y t) v)
-            go (some b) v h = rw (h .1) (turn-more i (stretch y t) (h .2) refl refl v u)
+            go : (s : StretchBefore) (o : Option ℤ) → chosen adm (g .act) ≡ o → StretchesTo e from s → y ∷ [] ≡ recorded o s → (z : Span) × StretchesTo e from (Of z) × (y .start ≡ z .start) × (y .end ≡ z .end) × (chosen adm (g .act) ≡ some (y .value))
+            go Nothing o v t h = absurd (omega (arith, ap length h))
+            go (Of z) none v t h = absurd (omega (arith, ap length h))
+            go (Of z) (some b) v t h = let q : y .value ≡ b = cc in (z, t, cc, cc, v ∙ ap some (sym q))
+
+        pub one-apart : Within 0 (y .start) waits
+        one-apart = let q = shown in rw (q .2) (turn-apart i (stretch (q .0) (q .1)))
+
+        module _ {next : List Range} {last : Range} (u : PushedOn eqℤ waits y next last) where
+          pub one-puttable : Puttable (w .points) (least (lengths d)) write place next
+          one-puttable = let q = shown in turn-puttable i (stretch (q .0) (q .1)) u (q .2) (q .3) (q .4)
+
+          pub one-going : {d' : Merged P} {place' : ℕ} → PutPieces (lay w) write place next d d' place' → Then d' (last ∷ []) place'
+          one-going v = let q = shown in subst (Going (selection w adm l write first) _ (last ∷ []) _) (bounds (q .0) (q .1) .2) (turn-more i (stretch (q .0) (q .1)) u (q .2) (q .3) (q .4) v)
 
     -- it is taken: the next stretch starts where it bears on the lists
     module _ {current' : List ℤ} {active' : Active} (h : Carried current' active' (taken e (g .act))) (greatest : ℕ) (last : greatest + 1 ≡ w .points) where

@@ -6,9 +6,8 @@ use mathlib.Core.Option.{Option, none, some}
 use mathlib.Core.List.{List, [], _∷_}
 use lib.IntN.{ℤ, pos}
 use lib.ListN.{length, getD}
-use Rattle.rules.specs.Piece.{Range, Within, there, present}
+use Rattle.rules.specs.Piece.{Range, there, present}
 use Rattle.rules.specs.Lists.{Column, Columns}
-use Rattle.rules.specs.Same.{eqℤ}
 use Rattle.rules.specs.Sweep as rules
 use Rattle.many_way_rules.specs.Selections.{admitted}
 use Rattle.many_way_rules.specs.Operations.{rule-of}
@@ -20,13 +19,12 @@ use Rattle.active_lists.specs.Kept.{Active, State, States, Stands, stands-befor
 use Rattle.multiway_sweep.specs.Front.{apply}
 use Rattle.multiway_sweep.specs.declared.Step.{Step}
 use Rattle.multiway_sweep.specs.declared.Step.the-variants.{Start, End, Done}
-use Rattle.multiway_pass.specs.Pieces.{ruling-of, waiting, PushedOn}
+use Rattle.multiway_pass.specs.Pieces.{ruling-of}
 use Rattle.multiway_pass.specs.declared.Ruling.{Ruling}
 use Rattle.select_pass.specs.Stretches.{StartsAfter}
 use Rattle.select_pass.specs.declared.StretchStart.{StretchStart}
 use Rattle.select_pass.specs.declared.StretchBefore.{StretchBefore}
 use Rattle.select_pass.specs.declared.StretchBefore.the-variants.{Of, Nothing}
-use Rattle.select_pass.specs.declared.Emitted.{Emitted}
 
 -- what the lists have
 abbrev pub Held : Type 0
@@ -69,30 +67,15 @@ chosen a act = rule-of (Select Highest a) act
 abbrev pub Says : Admission → ℕ → (Held → Type 0) → (Held → Type 0) → Ruling → Type 0
 Says a lists P Q r = (act : Held) → P act → length act ≡ lists → (ruling-of r ≡ chosen a act) × Q act
 
--- a stretch lies after what waits
-abbrev pub After : StretchBefore → List Range → Type 0
-After (Of x) waits = Within 0 (x .start) waits
-After Nothing waits = Unit {0}
+-- the piece of a stretch of which o is said, if there is one
+abbrev pub recorded : Option ℤ → StretchBefore → List Range
+recorded o Nothing = []
+recorded none (Of x) = []
+recorded (some v) (Of x) = record { start = x .start; end = x .end; value = v } ∷ []
 
-pub record Emittable (P : Held → Type 0) (lists : ℕ) (s : StretchBefore) (waits : List Range) : Type 0 where
-  pub known : Known P lists
-  pub after : After s waits
-
--- nothing is done, and what waits still does; or a piece is pushed to what waits
-abbrev pub Stays : List Range → Emitted → Type 0
-Stays waits r = (waiting (r .done) ≡ []) × (waiting (r .pending) ≡ waits)
-
-abbrev pub Pushes : Range → List Range → Emitted → Type 0
-Pushes y waits r = (z : Range) × (waiting (r .pending) ≡ z ∷ []) × PushedOn eqℤ waits y (waiting (r .done)) z
-
--- by what is said of the stretch
-abbrev pub Recorded : Option ℤ → StretchBefore → List Range → Emitted → Type 0
-Recorded o Nothing = Stays
-Recorded none (Of x) = Stays
-Recorded (some v) (Of x) = Pushes (record { start = x .start; end = x .end; value = v })
-
-abbrev pub Emits : Admission → ℕ → (Held → Type 0) → (Held → Type 0) → StretchBefore → List Range → Emitted → Type 0
-Emits a lists P Q s waits r = (act : Held) → P act → length act ≡ lists → Recorded (chosen a act) s waits r × Q act
+-- xs are the pieces of a stretch, one or none, and what the lists have stays
+abbrev pub Emits : Admission → ℕ → (Held → Type 0) → (Held → Type 0) → StretchBefore → List Range → Type 0
+Emits a lists P Q s xs = (act : Held) → P act → length act ≡ lists → (xs ≡ recorded (chosen a act) s) × Q act
 
 -- an event of one of the lists: a start finds it with nothing, an end with something
 abbrev pub Fits : Step → Held → Type 0

@@ -13,13 +13,12 @@ use multiway_pass::Pending;
 use multiway_pass::Piece;
 use multiway_pass::Ruling;
 use multiway_pass::admits;
-use multiway_pass::push_merged;
 use multiway_sweep::Range;
 use multiway_sweep::Step;
 ghost use Prim.Native.Nat.{_≤_};
 ghost use Rattle.multiway_pass.specs.Pieces.{waiting};
 ghost use Rattle.select_pass.specs.Stretches.{StretchesTo};
-ghost use Rattle.select_pass.specs.Selections.{carried, carried-before, carried-after, kept, Keeps, Known, Says, Emittable, Emits, Due, Takes};
+ghost use Rattle.select_pass.specs.Selections.{carried, carried-before, carried-after, kept, Keeps, Known, Says, Emits, Due, Takes};
 
 // Where the current stretch starts, while a list is active.
 pub enum StretchStart {
@@ -31,12 +30,6 @@ pub enum StretchStart {
 pub enum StretchBefore {
     Of(Range),
     Nothing,
-}
-
-// What is pending after a stretch, and what was pending before, where it is done.
-pub struct Emitted {
-    pub pending: Pending,
-    pub done: Pending,
 }
 
 // The stretch before an event: up to an end, or to the point before a start.
@@ -96,43 +89,29 @@ fn highest_value(
     Ruling::Value(value as i64)
 }
 
-// Records a stretch if it is kept: merged into what is pending, or pending itself.
+// The piece of a stretch, if it is kept.
 pub fn emit(
     admission: Admission,
     lists: usize,
     stretch: StretchBefore,
-    pending: Pending,
     current: &[i32; 16],
     active: &mut Active,
-) -> Emitted
-    requires { ⌜ Emittable (carried current active) lists stretch (waiting pending) ⌝ }
-    ensures { λ r. ⌜ Emits admission lists (carried-before current active) (carried-after current active) stretch (waiting pending) r ⌝ }
+) -> Pending
+    requires { ⌜ Known (carried current active) lists ⌝ }
+    ensures { λ r. ⌜ Emits admission lists (carried-before current active) (carried-after current active) stretch (waiting r) ⌝ }
 {
     let StretchBefore::Of(range) = stretch else {
-        return Emitted {
-            pending,
-            done: Pending::Nothing,
-        };
+        return Pending::Nothing;
     };
     let ruling = highest_value(admission, lists, current, active);
     let Ruling::Value(value) = ruling else {
-        return Emitted {
-            pending,
-            done: Pending::Nothing,
-        };
+        return Pending::Nothing;
     };
-    let next = Piece {
+    Pending::One(Piece {
         start: range.start,
         end: range.end,
         value,
-    };
-    let pushed = push_merged(pending, next);
-    let piece = pushed.pending;
-    let done = pushed.done;
-    Emitted {
-        pending: Pending::One(piece),
-        done,
-    }
+    })
 }
 
 // Takes an event: its list becomes active with a value, or inactive. Tells where the next stretch starts; nothing is added to the

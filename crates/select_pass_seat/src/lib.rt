@@ -5,6 +5,7 @@ use integer::seat::Point;
 use integer::seat::greatest_key;
 use many_way_rules::Admission;
 use multiway_pass::Pending;
+use multiway_pass::push_merged;
 use multiway_pass_seat::put;
 use multiway_sweep::sizes_after;
 use multiway_sweep_seat::fill;
@@ -20,8 +21,8 @@ ghost use Rattle.many_way_rules.specs.declared.Pick.the-variants.{Highest};
 ghost use Rattle.many_way_rules.specs.declared.Operation.the-variants.{Select};
 ghost use Rattle.multiway_pass.specs.Passes.{PutPieces, Mergeable};
 
-// One pass over all events: how many pieces there are. They are written where `write` says so. At each event the stretch before it is
-// recorded, then the event is taken; n ranges have 2n events.
+// One pass over all events: how many pieces there are. They are written where `write` says so. At each event the stretch before it makes
+// a piece, if it is kept, then the event is taken; n ranges have 2n events.
 pub fn pass(
     admission: Admission,
     starts: &[Point],
@@ -71,19 +72,16 @@ pub fn pass(
         );
         sizes = sizes_after(event, sizes);
         let stretch = stretch_before(event, stretch_start);
-        let emitted = emit(
-            admission,
-            counts.len(),
-            stretch,
-            pending,
-            &current,
-            &mut active,
-        );
-        let done = emitted.done;
-        count = put(write, count, done, out_start, out_end, out_value);
-        pending = emitted.pending;
+        let next = emit(admission, counts.len(), stretch, &current, &mut active);
         stretch_start = take(event, greatest_key(), &mut current, &mut active);
         left -= 1;
+        if let Pending::One(piece) = next {
+            let pushed = push_merged(pending, piece);
+            let done = pushed.done;
+            let last = pushed.pending;
+            count = put(write, count, done, out_start, out_end, out_value);
+            pending = Pending::One(last);
+        }
     }
     put(write, count, pending, out_start, out_end, out_value)
 }

@@ -1,6 +1,6 @@
 -- `select_pass_seat::pass` meets its contract: event by event, the pieces done and the one pending say what the rule says of the points dealt with. Assumes nothing.
 use Prim.Native.Nat.{ℕ}
-use mathlib.Core.Path.{refl, _∙_}
+use mathlib.Core.Path.{refl, sym, ap, _∙_}
 use native.Mathlib.Omega.{arith}
 use borrow.Author.Needs.{needs}
 use Rattle.rules.specs.Lists.{Lent, seats}
@@ -9,7 +9,7 @@ use Rattle.rules.proofs.Columns.{lists-length}
 use Rattle.multiway_pass.specs.Pieces.{waiting}
 use Rattle.multiway_pass.proofs.Walks.{Going, going-first, going-long, last-puttable, walked}
 use Rattle.multiway_pass.proofs.Merges.{walkable, all-merged}
-use Rattle.select_pass.proofs.Selects.{Selecting, selection, selecting-first, held-length, Taking, taking, over, emit-after, emit-puttable, emit-going, next}
+use Rattle.select_pass.proofs.Selects.{Selecting, selection, selecting-first, held-length, Taking, taking, over, one-apart, one-puttable, one-going, none-going, next}
 use Rattle.select_pass_seat.proofs.pass.Statement.{statement}
 use Rattle.select_pass_seat.proofs.pass.Tie as tie
 
@@ -25,7 +25,7 @@ abbrev μ-loop : tie.MeasureT-loop
 μ-loop admission starts ends values counts write out-start₀ out-end₀ out-value₀ cursors₀ start-keys₀ start-lists₀ end-keys₀ end-lists₀ sizes₀ current₀ active₀ stretch-start₀ pending₀ count₀ left₀ out-start out-end out-value cursors start-keys start-lists end-keys end-lists sizes current active stretch-start pending count left =
     left
 
--- the places that the answers cite: the entry, a turn, its event, the stretch before it, and what that makes pending and done
+-- the places that the answers cite: the entry, a turn, its event, the stretch before it, the piece of that, and where it is pushed
 abbrev Start : Type 0
 Start = tie.Start Inv-loop μ-loop
 
@@ -41,11 +41,14 @@ Before = tie.After-stretch-before Inv-loop μ-loop
 abbrev Emitted : Type 0
 Emitted = tie.After-emit Inv-loop μ-loop
 
-abbrev Put : Type 0
-Put = tie.After-put Inv-loop μ-loop
-
 abbrev Took : Type 0
 Took = tie.After-take Inv-loop μ-loop
+
+abbrev Shown : Type 0
+Shown = tie.After-next Inv-loop μ-loop
+
+abbrev Pushed : Type 0
+Pushed = tie.After-push-merged Inv-loop μ-loop
 
 abbrev entry : Loop → Start
 entry l = search
@@ -65,11 +68,17 @@ sized b = search
 abbrev before : Emitted → Before
 before m = search
 
-abbrev emitted : Put → Emitted
-emitted p = search
+abbrev emitted : Took → Emitted
+emitted t = search
 
-abbrev put : Took → Put
-put t = search
+abbrev greatest : Took → tie.After-greatest-key Inv-loop μ-loop
+greatest t = search
+
+abbrev took : Shown → Took
+took n = search
+
+abbrev shown : Pushed → Shown
+shown u = search
 
 -- the event is the first of those that are left
 taken : (e : Event) → let x = e .step .last .1 .1 .1 in Taking (turn e .loop .inv .1) (record { cursors = x .0; start-keys = x .1 .0; start-lists = x .1 .1 .0; end-keys = x .1 .1 .1 .0; end-lists = x .1 .1 .1 .1 .0 }) (e .step .result)
@@ -94,45 +103,68 @@ pass-spec =
     (λ c κs. let l : Loop = search in (_, l .loop .inv .1 .sweeping))
     (λ c κs. search needs)
     (λ c κs. search needs)
-    -- the stretch before it
-    (λ c κs.
-    let b : Before = search in
-    let e = came b in
-    let i = turn e .loop .inv in
-    let a = entry (turn e) in
-    record { known = (i .1 .act, i .1 .carried, held-length (i .1)); after = emit-after (i .1) (taken e) (a .args .admission) (a .args .write) _ (i .2) (b .stretch-before .result) (b .stretch-before .ensures) })
-    (λ c κs.
-    let m : Emitted = search in
-    let b = before m in
-    let e = came b in
-    let i = turn e .loop .inv in
-    let a = entry (turn e) in
-    emit-puttable (i .1) (taken e) (a .args .admission) (a .args .write) _ (i .2) (b .stretch-before .result) (b .stretch-before .ensures) (m .emit .result) (m .emit .ensures (i .1 .act) (i .1 .carried) (held-length (i .1)) .0))
+    -- the piece of the stretch before it
+    (λ c κs. let b : Before = search in let i = turn (came b) .loop .inv in (i .1 .act, i .1 .carried, held-length (i .1)))
     -- the event is taken
     (λ c κs. search needs)
     (λ c κs.
-    let p : Put = search in
-    let m = emitted p in
+    let m : Emitted = search in
     let e = came (before m) in
     let g = turn e .loop .inv .1 in
     (g .act, m .emit .ensures (g .act) (g .carried) (held-length g) .1, taken e .fits))
-    (λ c. let t : Took = search in omega (arith, test (came (before (emitted (put t)))) .loop-test .taken))
-    (λ c. let t : Took = search in omega (arith, test (came (before (emitted (put t)))) .loop-test .taken))
-    (λ c.
-    let t : Took = search in
-    let n : tie.After-greatest-key Inv-loop μ-loop = search in
-    let p = put t in
-    let m = emitted p in
+    (λ c. let t : Took = search in omega (arith, test (came (before (emitted t))) .loop-test .taken))
+    -- there is a piece: it is pushed to what is pending, and what is done is put
+    (λ c. search needs)
+    (λ c κs.
+    let n : Shown = search in
+    let t = took n in
+    let m = emitted t in
     let b = before m in
     let e = came b in
     let i = turn e .loop .inv in
     let a = entry (turn e) in
     let r = m .emit .ensures (i .1 .act) (i .1 .carried) (held-length (i .1)) in
-    let u = t .take .ensures (i .1 .act) (r .1) (taken e .fits) in (
-      _,
-      next (i .1) (taken e) (u .0) (n .greatest-key .result) (n .greatest-key .ensures) (t .take .result) (u .1) (sized b .sizes-after .ensures),
-      emit-going (i .1) (taken e) (a .args .admission) (a .args .write) _ (i .2) (b .stretch-before .result) (b .stretch-before .ensures) (m .emit .result) (r .0) (p .put .ensures),
-    ))
+    one-apart (i .1) (taken e) (a .args .admission) (a .args .write) _ (i .2) (b .stretch-before .result) (b .stretch-before .ensures) (sym (ap waiting (n .next .given .1)) ∙ r .0))
+    (λ c κs.
+    let u : Pushed = search in
+    let n = shown u in
+    let t = took n in
+    let m = emitted t in
+    let b = before m in
+    let e = came b in
+    let i = turn e .loop .inv in
+    let a = entry (turn e) in
+    let r = m .emit .ensures (i .1 .act) (i .1 .carried) (held-length (i .1)) in
+    one-puttable (i .1) (taken e) (a .args .admission) (a .args .write) _ (i .2) (b .stretch-before .result) (b .stretch-before .ensures) (sym (ap waiting (n .next .given .1)) ∙ r .0) (u .push-merged .ensures))
+    (λ c. let u : Pushed = search in omega (arith, test (came (before (emitted (took (shown u))))) .loop-test .taken))
+    (λ c.
+    let p : tie.After-put Inv-loop μ-loop = search in
+    let u : Pushed = search in
+    let n = shown u in
+    let t = took n in
+    let m = emitted t in
+    let b = before m in
+    let e = came b in
+    let i = turn e .loop .inv in
+    let a = entry (turn e) in
+    let r = m .emit .ensures (i .1 .act) (i .1 .carried) (held-length (i .1)) in
+    let v = t .take .ensures (i .1 .act) (r .1) (taken e .fits) in
+    let k = greatest t in
+    (_, next (i .1) (taken e) (v .0) (k .greatest-key .result) (k .greatest-key .ensures) (t .take .result) (v .1) (sized b .sizes-after .ensures), one-going (i .1) (taken e) (a .args .admission) (a .args .write) _ (i .2) (b .stretch-before .result) (b .stretch-before .ensures) (sym (ap waiting (n .next .given .1)) ∙ r .0) (u .push-merged .ensures) (p .put .ensures)))
+    -- there is none
+    (λ c. search needs)
+    (λ c. let t : Took = search in omega (arith, test (came (before (emitted t))) .loop-test .taken))
+    (λ c.
+    let t : Took = search in
+    let m = emitted t in
+    let b = before m in
+    let e = came b in
+    let i = turn e .loop .inv in
+    let a = entry (turn e) in
+    let r = m .emit .ensures (i .1 .act) (i .1 .carried) (held-length (i .1)) in
+    let v = t .take .ensures (i .1 .act) (r .1) (taken e .fits) in
+    let k = greatest t in
+    (_, next (i .1) (taken e) (v .0) (k .greatest-key .result) (k .greatest-key .ensures) (t .take .result) (v .1) (sized b .sizes-after .ensures), none-going (i .1) (taken e) (a .args .admission) (a .args .write) _ (i .2) (b .stretch-before .result) (b .stretch-before .ensures) (sym (ap waiting (c .enum-told .given .1)) ∙ r .0)))
     -- none is left: what is pending is put
     (λ c κs. let t : tie.After-loop Inv-loop μ-loop = search in let l : Loop = search in let i = l .loop .inv in last-puttable (i .2) (over (i .1) (omega (arith, t .loop-test .left))))
     (λ c. let p : tie.After-put2 Inv-loop μ-loop = search in let l : Loop = search in p .put2 .kept .1 .1 .1 .0 ∙ going-long (l .loop .inv .2) .0)
