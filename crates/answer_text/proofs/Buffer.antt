@@ -1,0 +1,105 @@
+-- Texts in a buffer: one after the other, one byte, a copy; at the front. Assumes nothing.
+use Prim.Native.Nat.{ℕ, suc, _+_, _-_, _≤_, _<_}
+use mathlib.Core.Path.{_≡_, refl, sym, ap, _∙_}
+use mathlib.Core.Bool.{true, false, cond}
+use mathlib.Core.List.{List, [], _∷_, _++_, append-assoc, append-nil}
+use native.Mathlib.Nat.{add-assoc, add-zero, zero-add}
+use native.Mathlib.Omega.{arith}
+use native.Mathlib.Numerals.{add-one}
+use lib.Dec.{leb}
+use lib.ListN.{length, take, drop, set, length-append, length-drop, length-set, take-append-drop}
+use lib.Seq.{length-take-le, take-at, drop-append-add, drop-drop, set-split, paste, take-length}
+use borrow.Author.Tests.{le-leb, lt-leb}
+use Rattle.answer_text.specs.Buffer.{over, Room, Put, leaves, print}
+
+module _ (at : ℕ) (s old : List ℕ) (h : at + length s ≤ length old) where
+  head-long : length (take at old) ≡ at
+  head-long = length-take-le at old (omega arith)
+
+  pub length-over : length (over at s old) ≡ length old
+  length-over = simp (length-append, length-drop, head-long) (omega arith)
+
+  whole-long : length (take at old ++ s) ≡ at + length s
+  whole-long = length-append (take at old) s ∙ ap (λ (k : ℕ). k + length s) head-long
+
+  regroup : over at s old ≡ (take at old ++ s) ++ drop (at + length s) old
+  regroup = sym (append-assoc (take at old) s (drop (at + length s) old))
+
+  after : (k : ℕ) → drop (at + length s + k) (over at s old) ≡ drop (at + length s + k) old
+  after k =
+      ap (drop (at + length s + k)) regroup
+      ∙ ap (λ (m : ℕ). drop (m + k) ((take at old ++ s) ++ drop (at + length s) old)) (sym whole-long)
+      ∙ drop-append-add (take at old ++ s) (drop (at + length s) old) k
+      ∙ drop-drop k (at + length s) old
+
+  before : take (at + length s) (over at s old) ≡ take at old ++ s
+  before = ap (take (at + length s)) regroup ∙ take-at (take at old ++ s) (drop (at + length s) old) (at + length s) whole-long
+
+  -- a text after another
+  pub over-over : (t : List ℕ) → over (at + length s) t (over at s old) ≡ over at (s ++ t) old
+  over-over t = rw (before, after (length t), length-append, append-assoc, append-assoc, add-assoc)
+
+-- one place after another
+pub puts : {at r q : ℕ} {s t old mid new : List ℕ} → Room at s old → Put at s old mid r → Put r t mid new q → Put at (s ++ t) old new q
+puts {at} {r} {q} {s} {t} {old} {mid} {new} h a b =
+    record {
+      after = b .after ∙ ap (λ (k : ℕ). k + length t) (a .after) ∙ add-assoc at (length s) (length t) ∙ ap (λ (k : ℕ). at + k) (sym (length-append s t));
+      bytes = b .bytes ∙ ap (λ (k : ℕ). over k t mid) (a .after) ∙ ap (over (at + length s) t) (a .bytes) ∙ over-over at s old h t;
+    }
+
+-- as long as before, so that there is still room
+pub put-long : {at r : ℕ} {s old mid : List ℕ} → Room at s old → Put at s old mid r → length mid ≡ length old
+put-long {at} {r} {s} {old} {mid} h a = ap length (a .bytes) ∙ length-over at s old h
+
+pub room-left : (at r : ℕ) (s t old mid : List ℕ) → Room at (s ++ t) old → Put at s old mid r → Room r t mid
+room-left at r s t old mid h a =
+    let l : length (s ++ t) ≡ length s + length t = length-append s t in
+    let k : length mid ≡ length old = put-long {at = at} {r = r} {s = s} (omega arith) a in
+    omega (arith, a .after)
+
+-- nothing written yet
+pub put-none : (at : ℕ) (old : List ℕ) → Put at [] old old at
+put-none at old = record { after = sym (add-zero at); bytes = sym (rw add-zero (take-append-drop at old)) }
+
+-- one byte
+pub put-one : (at b : ℕ) (old : List ℕ) → at < length old → Put at (b ∷ []) old (set old at b) (at + 1)
+put-one at b old h = record { after = refl; bytes = rw add-one (set-split old at b h) }
+
+-- two bytes
+pub put-two : (at b d : ℕ) (old : List ℕ) → at + 1 < length old → Put at (b ∷ d ∷ []) old (set (set old at b) (at + 1) d) (at + 2)
+put-two at b d old h =
+    let l : at + 1 < length (set old at b) = simp length-set h in
+    record { after = refl; bytes = puts {s = b ∷ []} {t = d ∷ []} (omega arith) (put-one at b old (omega arith)) (put-one (at + 1) d (set old at b) l) .bytes }
+
+-- a copy
+pub put-copy : (at : ℕ) (s old : List ℕ) → Put at s old (paste old at s (length s)) (at + length s)
+put-copy at s old = record { after = refl; bytes = rw (take-length s, append-assoc) }
+
+abbrev pub joined : List (List ℕ) → List ℕ
+joined [] = []
+joined (s ∷ us) = s ++ joined us
+
+-- t is written from a place on, and the parts us still have room after it
+pub record Going (at : ℕ) (t : List ℕ) (us : List (List ℕ)) (old mid : List ℕ) (r : ℕ) : Type 0 where
+  pub put : Put at t old mid r
+  pub room : Room at (t ++ joined us) old
+
+pub begin : (at : ℕ) (us : List (List ℕ)) (old : List ℕ) → Room at (joined us) old → Going at [] us old old at
+begin at us old h = record { put = put-none at old; room = h }
+
+module _ {at r : ℕ} {t s : List ℕ} {us : List (List ℕ)} {old mid : List ℕ} (g : Going at t (s ∷ us) old mid r) where
+  pub next-room : Room r s mid
+  next-room = room-left at r t s old mid (omega (arith, g .room, simp length-append at (g .room), length-append t s)) (g .put)
+
+  pub step : {q : ℕ} {new : List ℕ} → Put r s mid new q → Going at (t ++ s) us old new q
+  step p = record { put = puts (omega (arith, simp length-append at (g .room))) (g .put) p; room = rw append-assoc (g .room) }
+
+-- a whole text from the first place on, and one that does not fit
+pub printed : (t old new : List ℕ) (r : ℕ) → length t ≤ length old → Put 0 t old new r → leaves r new ≡ print t old
+printed t old new r h p =
+    let e : r ≡ length t = omega (arith, p .after) in
+    let b : new ≡ t ++ drop (length t) old = p .bytes ∙ rw zero-add in
+    rw (le-leb (length t) (length old) h, e, b)
+
+pub unprinted : (t old : List ℕ) → length old < length t → leaves 0 old ≡ print t old
+unprinted t old h = rw (lt-leb (length t) (length old) h)

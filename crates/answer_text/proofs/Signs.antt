@@ -1,0 +1,88 @@
+-- Signed numbers that went through locals: their size, and their text by the sign. Assumes nothing.
+use Prim.Native.Nat.{ℕ, zero, suc, _+_, _-_, _<_, _≤_, _^_}
+use mathlib.Core.Path.{_≡_, refl, sym, ap, _∙_}
+use mathlib.Core.Bool.{true, false}
+use mathlib.Core.List.{List, [], _∷_, _++_}
+use native.Mathlib.Omega.{arith}
+use native.Mathlib.Nat.{pow-le-pow-right}
+use lib.Dec.{T}
+use lib.IntN.{ℤ, pos, negsuc, natAbs, _-ℤ_}
+use lib.ListN.{length, take}
+use lib.Signed.{ltZ, mag, nonNeg}
+use borrow.Author.Tests.{le-ltb, ltb-true}
+use mir.Syntax.{Width, w32, w64}
+use mir.Val.{Fits, SFits, hbits, ofZ, toZ}
+use mir.ValLaws.{toZ-ofZ, toZ-pos}
+use Rattle.io.specs.Counts.{Counts}
+use Rattle.io.specs.Digits.{digits, Fewest}
+use Rattle.answer_text.specs.Numbers.{decimal, signed}
+use Rattle.answer_text.proofs.Numbers.{by-test, digits-decimal}
+
+pub back : (w : Width) (a : ℤ) → mag a < 2 ^ hbits w → toZ w (ofZ w a) ≡ a
+back w a f = toZ-ofZ w a (record { sfits = f })
+
+abbrev Unsigned : ℤ → Type 0
+Unsigned z = T (nonNeg z) × Fits w64 (natAbs z)
+
+-- what the two ways of `size` ask and give
+abbrev Negative : ℤ → ℕ → Type 0
+Negative z k = let d = negsuc 0 -ℤ z in let u = toZ w64 (ofZ w64 d) in SFits w64 d × Unsigned u × Fits w64 (natAbs u + 1) × (natAbs u + 1 ≡ k)
+
+negative : (a : ℤ) → mag a < 2 ^ 63 → ltZ a (pos 0) ≡ true → Negative a (natAbs a)
+negative (pos n) f t = absurd (omega (arith, ltb-true n 0 t))
+negative (negsuc n) f t =
+    rw (le-ltb (suc n) 1 (omega arith), toZ-pos w64 (suc n - 1) (omega arith))
+    (record { sfits = omega arith }, (tt, record { fits = omega arith }), record { fits = omega arith }, omega arith)
+
+nonnegative : (a : ℤ) → mag a < 2 ^ 63 → ltZ a (pos 0) ≡ false → Unsigned a
+nonnegative (pos n) f t = (tt, record { fits = omega arith })
+nonnegative (negsuc n) f t = let z : _≡_ {A = ℕ} 0 1 = cc in absurd (omega arith)
+
+pub size-negative : (a : ℤ) → mag a < 2 ^ 63 → ltZ (toZ w64 (ofZ w64 a)) (pos 0) ≡ true → Negative (toZ w64 (ofZ w64 a)) (natAbs a)
+size-negative a f t = rw (back w64 a f) (negative a f (rw (back w64 a f) at t))
+
+pub size-nonnegative : (a : ℤ) → mag a < 2 ^ 63 → ltZ (toZ w64 (ofZ w64 a)) (pos 0) ≡ false → Unsigned (toZ w64 (ofZ w64 a)) × (natAbs (toZ w64 (ofZ w64 a)) ≡ natAbs a)
+size-nonnegative a f t = rw (back w64 a f) (nonnegative a f (rw (back w64 a f) at t), refl)
+
+-- a number's text by its sign
+by-minus : (a : ℤ) → ltZ a (pos 0) ≡ true → signed a ≡ 45 ∷ decimal (natAbs a)
+unfolding signed
+by-minus (pos n) t = absurd (omega (arith, ltb-true n 0 t))
+by-minus (negsuc n) t = refl
+
+by-none : (a : ℤ) → ltZ a (pos 0) ≡ false → signed a ≡ decimal (natAbs a)
+unfolding signed
+by-none (pos n) t = refl
+by-none (negsuc n) t = let z : _≡_ {A = ℕ} 0 1 = cc in absurd (omega arith)
+
+pub with-minus : (a : ℤ) (n : ℕ) → mag a < 2 ^ 63 → n ≡ natAbs (toZ w64 (ofZ w64 a)) → ltZ (toZ w64 (ofZ w64 a)) (pos 0) ≡ true → signed a ≡ 45 ∷ decimal n
+with-minus a n f e t = by-minus a (rw (back w64 a f) at t) ∙ ap (λ (k : ℕ). 45 ∷ decimal k) (sym (e ∙ ap natAbs (back w64 a f)))
+
+pub with-none : (a : ℤ) (n : ℕ) → mag a < 2 ^ 63 → n ≡ natAbs (toZ w64 (ofZ w64 a)) → ltZ (toZ w64 (ofZ w64 a)) (pos 0) ≡ false → signed a ≡ decimal n
+with-none a n f e t = by-none a (rw (back w64 a f) at t) ∙ ap decimal (sym (e ∙ ap natAbs (back w64 a f)))
+
+-- twenty digits are enough
+few-digits : (n k : ℕ) → n < 2 ^ 64 → Fewest 10 1 n k → k ≤ 20
+few-digits n k h f =
+    by-test 20 k (k ≤ 20)
+    (λ l. absurd (omega (arith, f .2 (omega arith), pow-le-pow-right {n = 10} (omega arith) {i = 20} {j = k - 1} (omega arith))))
+    (λ l. l)
+
+-- what io's digits say
+pub record Spelt (n k : ℕ) (l : List ℕ) : Type 0 where
+  pub few : k ≤ 20
+  pub within : k ≤ length l
+  pub bytes : take k l ≡ decimal n
+  pub long : k ≡ length (decimal n)
+
+pub spelt : (n k : ℕ) (l : List ℕ) → n < 2 ^ 64 → Counts k l × (Fewest 10 1 n k × (take k l ≡ digits 10 k n)) → Spelt n k l
+spelt n k l f h =
+    let b : take k l ≡ decimal n = h .1 .1 ∙ digits-decimal k n (h .1 .0) in
+    record { few = few-digits n k f (h .1 .0); within = h .0 .0; bytes = b; long = h .0 .1 ∙ ap length b }
+
+-- an i32 as an i64
+pub widened : (a : ℤ) → mag a < 2 ^ 31 → let x = toZ w32 (ofZ w32 a) in SFits w64 x × (toZ w64 (ofZ w64 x) ≡ a)
+widened a f = rw (back w32 a f) (record { sfits = omega arith }, back w64 a (omega arith))
+
+pub widened-back : (a r : ℤ) → mag a < 2 ^ 31 → r ≡ toZ w32 (ofZ w32 a) → toZ w64 (ofZ w64 r) ≡ a
+widened-back a r f e = ap (λ (z : ℤ). toZ w64 (ofZ w64 z)) e ∙ widened a f .1

@@ -1,0 +1,1 @@
+// The text of an answer: numbers in decimal, lines, rows, and a text in a lent buffer.

@@ -1,0 +1,2 @@
+-- The printed text of a file as a definition.
+pub mod Printed

@@ -1,0 +1,60 @@
+-- The printed text of a tariff file: it is read, joined in columns with room for 4,095 pieces, and printed. Assumes nothing.
+use Prim.Native.Nat.{ℕ}
+use mathlib.Core.Bool.{cond}
+use mathlib.Core.Option.{Option, none, some}
+use mathlib.Core.List.{List}
+use lib.Dec.{eqb}
+use lib.IntN.{ℤ, pos}
+use lib.ListN.{length, replicate}
+use Rattle.rules.specs.Lists.{Lent, instants}
+use Rattle.rules.specs.Answer.{Outcome, code-of, number-of}
+use Rattle.rules.specs.Merged.{Merged}
+use Rattle.rules.specs.Paired.{Paired}
+use Rattle.rules.specs.Outcomes.{pairing}
+use Rattle.rules.specs.declared.Answer.{Answer as Answered}
+use Rattle.many_way_rules.specs.Sheet.{Tariff, lend}
+use Rattle.many_way_rules.specs.Outcomes.{merging}
+use Rattle.many_way_rules.specs.declared.Operation.{Operation}
+use Rattle.many_way_rules.specs.declared.Operation.the-variants.{Join as Joining, Select as Selecting}
+use Rattle.tariff_file.specs.File as file
+use Rattle.tariff_file.specs.File.{Head, Reading, ill-formed, accepted, task-of, read}
+use Rattle.tariff_file.specs.declared.Task.{Task}
+use Rattle.tariff_file.specs.declared.Task.the-variants.{Pair, Join, Select}
+use Rattle.answer_text.specs.Answers.{Answer, merged, paired, refused, rows, pairs, answer}
+
+-- columns with room for the most pieces that the ranges of a file give
+abbrev pub merge-room : Merged ℤ
+merge-room = record { start = replicate 4095 (pos 0); end = replicate 4095 (pos 0); value = replicate 4095 (pos 0) }
+
+abbrev pub pair-room : Paired ℤ
+pair-room = record { start = replicate 4095 (pos 0); end = replicate 4095 (pos 0); left = replicate 4095 (pos 0); right = replicate 4095 (pos 0); presence = replicate 4095 0 }
+
+-- the pieces where code 0 is answered, whose number they are; else the code and its number
+abbrev pub told : Answered → (ℕ → Answer) → Answer
+told a done = cond (eqb (code-of a) 0) (done (number-of a)) (refused (code-of a) (number-of a))
+
+module _ (h : Head) (l : Lent ℤ) where
+  abbrev pub merge-told : Outcome (Merged ℤ) → Answer
+  merge-told o = told (o .answer) (λ n. merged (h .operation) (h .combiner) (length (l .counts)) (rows (o .columns) n))
+
+  abbrev pub pair-told : Outcome (Paired ℤ) → Answer
+  pair-told o = told (o .answer) (λ n. paired (h .operation) (h .combiner) (length (l .counts)) (pairs (o .columns) n))
+
+  abbrev pub performed : Task → Answer
+  performed (Pair p) = pair-told (pairing instants p l pair-room)
+  performed (Join a) = merge-told (merging instants (Joining a (h .combiner)) l merge-room)
+  performed (Select p a) = merge-told (merging instants (Selecting p a) l merge-room)
+
+  -- a file that is accepted has a known operation
+  abbrev pub asked : Option Task → Answer
+  asked none = refused 13 0
+  asked (some t) = performed t
+
+abbrev pub answered : Reading → Answer
+answered (file.refused r) = refused (file.code-of r) (file.number-of r)
+answered (ill-formed a) = refused (code-of a) (number-of a)
+answered (accepted h ls) = asked h (lend ls) (task-of (h .operation))
+
+unfoldable pub printed : List ℕ → List ℕ
+unfolding read merging pairing
+printed b = answer (answered (read b))

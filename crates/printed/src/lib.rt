@@ -1,0 +1,1 @@
+// The printed text of a tariff file: what holds of every file.

@@ -1,0 +1,9 @@
+-- The laws of the tariff file: `File` has them. `Number`, `Record` and `Sequence` know no format; `Places`, `Steps` and `Columns` are for the code.
+pub mod Number
+pub mod Sequence
+pub mod Record
+pub mod File
+pub mod Places
+pub mod Steps
+pub mod Columns
+pub mod Examples

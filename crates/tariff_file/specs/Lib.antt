@@ -1,0 +1,5 @@
+-- The tariff file as definitions: `Layout` and `Reader` know no format, `File` is the format; `Examples` is computed.
+pub mod Layout
+pub mod Reader
+pub mod File
+pub mod Examples
