@@ -12,6 +12,7 @@ use Rattle.rules.specs.Merged.{Merged}
 use Rattle.rules.specs.Paired.{Paired}
 use Rattle.rules.specs.Outcomes.{pairing}
 use Rattle.rules.specs.declared.Answer.{Answer as Answered}
+use Rattle.rules.specs.declared.Pairing.{Pairing}
 use Rattle.many_way_rules.specs.Sheet.{Tariff, lend}
 use Rattle.many_way_rules.specs.Outcomes.{merging}
 use Rattle.many_way_rules.specs.declared.Operation.{Operation}
@@ -33,28 +34,38 @@ pair-room = record { start = replicate 4095 (pos 0); end = replicate 4095 (pos 0
 abbrev pub told : Answered → (ℕ → Answer) → Answer
 told a done = cond (eqb (code-of a) 0) (done (number-of a)) (refused (code-of a) (number-of a))
 
-module _ (h : Head) (l : Lent ℤ) where
-  abbrev pub merge-told : Outcome (Merged ℤ) → Answer
-  merge-told o = told (o .answer) (λ n. merged (h .operation) (h .combiner) (length (l .counts)) (rows (o .columns) n))
+abbrev pub head : ℕ → ℕ → Head
+head o c = record { operation = o; combiner = c }
 
-  abbrev pub pair-told : Outcome (Paired ℤ) → Answer
-  pair-told o = told (o .answer) (λ n. paired (h .operation) (h .combiner) (length (l .counts)) (pairs (o .columns) n))
+module _ (h : Head) where
+  -- a two-way operation, and a many-way one, over lent lists
+  unfoldable pub paired-answer : Pairing → Lent ℤ → Answer
+  unfolding pairing
+  paired-answer p l =
+      let o = pairing instants p l pair-room in
+      told (o .answer) (λ n. paired (h .operation) (h .combiner) (length (l .counts)) (pairs (o .columns) n))
 
-  abbrev pub performed : Task → Answer
-  performed (Pair p) = pair-told (pairing instants p l pair-room)
-  performed (Join a) = merge-told (merging instants (Joining a (h .combiner)) l merge-room)
-  performed (Select p a) = merge-told (merging instants (Selecting p a) l merge-room)
+  unfoldable pub merged-answer : Operation → Lent ℤ → Answer
+  unfolding merging
+  merged-answer a l =
+      let o = merging instants a l merge-room in
+      told (o .answer) (λ n. merged (h .operation) (h .combiner) (length (l .counts)) (rows (o .columns) n))
+
+  abbrev pub performed : Task → Lent ℤ → Answer
+  performed (Pair p) l = paired-answer p l
+  performed (Join a) l = merged-answer (Joining a (h .combiner)) l
+  performed (Select p a) l = merged-answer (Selecting p a) l
 
   -- a file that is accepted has a known operation
-  abbrev pub asked : Option Task → Answer
-  asked none = refused 13 0
-  asked (some t) = performed t
+  abbrev pub asked : Option Task → Lent ℤ → Answer
+  asked none l = refused 13 0
+  asked (some t) l = performed t l
 
 abbrev pub answered : Reading → Answer
 answered (file.refused r) = refused (file.code-of r) (file.number-of r)
 answered (ill-formed a) = refused (code-of a) (number-of a)
-answered (accepted h ls) = asked h (lend ls) (task-of (h .operation))
+answered (accepted h ls) = asked h (task-of (h .operation)) (lend ls)
 
 unfoldable pub printed : List ℕ → List ℕ
-unfolding read merging pairing
+unfolding read paired-answer merged-answer
 printed b = answer (answered (read b))

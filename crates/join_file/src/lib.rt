@@ -1,0 +1,192 @@
+// A tariff file joined and printed: file bytes in, the text into a lent buffer, its length back.
+
+use file_reader::Contents;
+use file_reader::Head;
+use file_reader::read_file;
+use many_way_rules::Operation;
+use multiway_merge_instant::merge_lists;
+use rules::Answer;
+use rules::Pairing;
+use rules::code;
+use rules::number;
+use tariff_file::Task;
+use tariff_file::refusal_code;
+use tariff_file::refusal_number;
+use text_rows::print_merged;
+use text_rows::print_paired;
+use text_rows::print_refusal;
+use two_way_join_instant::join_lists;
+ghost use mathlib.Core.Path.{_≡_};
+ghost use Rattle.rules.specs.Lists.{given};
+ghost use Rattle.answer_text.specs.Answers.{answer};
+ghost use Rattle.answer_text.specs.Buffer.{leaves, print};
+ghost use Rattle.printed.specs.Printed.{head, paired-answer, merged-answer, performed, printed};
+
+// Joins two lists as asked, and prints the pieces or the refusal.
+fn join_pairs(
+    asked: Pairing,
+    operation: u8,
+    combiner: u8,
+    starts: &[i64],
+    ends: &[i64],
+    values: &[i32],
+    counts: &[u32],
+    text: &mut [u8],
+) -> usize
+    ensures { λ r. ⌜ leaves r (now (text .exit)) ≡ print (answer (paired-answer (head operation combiner) asked (given starts ends values counts))) (now (text .entry)) ⌝ }
+{
+    let mut out_start: [i64; 4095] = [0; 4095];
+    let mut out_end: [i64; 4095] = [0; 4095];
+    let mut out_left: [i32; 4095] = [0; 4095];
+    let mut out_right: [i32; 4095] = [0; 4095];
+    let mut out_presence: [u8; 4095] = [0; 4095];
+    let answer = join_lists(
+        asked,
+        starts,
+        ends,
+        values,
+        counts,
+        &mut out_start,
+        &mut out_end,
+        &mut out_left,
+        &mut out_right,
+        &mut out_presence,
+    );
+    let Answer::Done(pieces) = answer else {
+        return print_refusal(code(answer), number(answer), text);
+    };
+    print_paired(
+        operation,
+        combiner,
+        counts.len(),
+        &out_start,
+        &out_end,
+        &out_left,
+        &out_right,
+        &out_presence,
+        pieces,
+        text,
+    )
+}
+
+// Merges lists as asked, and prints the pieces or the refusal.
+fn join_many(
+    asked: Operation,
+    operation: u8,
+    combiner: u8,
+    starts: &[i64],
+    ends: &[i64],
+    values: &[i32],
+    counts: &[u32],
+    text: &mut [u8],
+) -> usize
+    ensures { λ r. ⌜ leaves r (now (text .exit)) ≡ print (answer (merged-answer (head operation combiner) asked (given starts ends values counts))) (now (text .entry)) ⌝ }
+{
+    let mut out_start: [i64; 4095] = [0; 4095];
+    let mut out_end: [i64; 4095] = [0; 4095];
+    let mut out_value: [i64; 4095] = [0; 4095];
+    let answer = merge_lists(
+        asked,
+        starts,
+        ends,
+        values,
+        counts,
+        &mut out_start,
+        &mut out_end,
+        &mut out_value,
+    );
+    let Answer::Done(pieces) = answer else {
+        return print_refusal(code(answer), number(answer), text);
+    };
+    print_merged(
+        operation,
+        combiner,
+        counts.len(),
+        &out_start,
+        &out_end,
+        &out_value,
+        pieces,
+        text,
+    )
+}
+
+// Does what a head asks for with the lists, and prints what comes of it.
+fn perform(
+    task: Task,
+    operation: u8,
+    combiner: u8,
+    starts: &[i64],
+    ends: &[i64],
+    values: &[i32],
+    counts: &[u32],
+    text: &mut [u8],
+) -> usize
+    ensures { λ r. ⌜ leaves r (now (text .exit)) ≡ print (answer (performed (head operation combiner) task (given starts ends values counts))) (now (text .entry)) ⌝ }
+{
+    match task {
+        Task::Pair(asked) => {
+            join_pairs(
+                asked,
+                operation,
+                combiner,
+                starts,
+                ends,
+                values,
+                counts,
+                text,
+            )
+        }
+        Task::Join(admission) => {
+            let asked = Operation::Join(admission, combiner);
+            join_many(
+                asked,
+                operation,
+                combiner,
+                starts,
+                ends,
+                values,
+                counts,
+                text,
+            )
+        }
+        Task::Select(pick, admission) => {
+            let asked = Operation::Select(pick, admission);
+            join_many(
+                asked,
+                operation,
+                combiner,
+                starts,
+                ends,
+                values,
+                counts,
+                text,
+            )
+        }
+    }
+}
+
+// Joins a tariff file, and puts the printed text at the front of the buffer. It answers the text's length; where the text does not
+// fit, it answers 0 and leaves the buffer as it was.
+pub fn join_file(file: &[u8], text: &mut [u8]) -> usize
+    ensures { λ r. ⌜ leaves r (now (text .exit)) ≡ print (printed (now (file .entry))) (now (text .entry)) ⌝ }
+{
+    let mut starts: [i64; 2048] = [0; 2048];
+    let mut ends: [i64; 2048] = [0; 2048];
+    let mut values: [i32; 2048] = [0; 2048];
+    let mut counts: [u32; 16] = [0; 16];
+    match read_file(file, &mut starts, &mut ends, &mut values, &mut counts) {
+        Contents::Refused(refusal) => {
+            print_refusal(refusal_code(refusal), refusal_number(refusal), text)
+        }
+        Contents::Held(head) => perform(
+            head.task,
+            head.operation,
+            head.combiner,
+            &starts[..head.ranges],
+            &ends[..head.ranges],
+            &values[..head.ranges],
+            &counts[..head.lists],
+            text,
+        ),
+    }
+}
