@@ -1,15 +1,15 @@
--- Equal texts are those of equal rows; document 01's example is computed. Assumes nothing.
-use Prim.Native.Nat.{ℕ, suc, _+_, _≤_, _<_}
-use mathlib.Core.Path.{_≡_, refl, sym, ap, _∙_, subst}
+-- Equal texts are those of equal answers; an answer and the least number as examples. Assumes nothing.
+use Prim.Native.Nat.{ℕ, suc}
+use mathlib.Core.Path.{_≡_, refl, sym, ap, subst}
 use mathlib.Core.Logic.{_↔_}
 use mathlib.Core.Option.{Option, none, some}
-use mathlib.Core.List.{List, [], _∷_, _++_, map, head-eq-of-cons-eq, tail-eq-of-cons-eq}
+use mathlib.Core.List.{List, [], _∷_, map, head-eq-of-cons-eq, tail-eq-of-cons-eq}
 use native.Mathlib.Omega.{arith}
 use lib.IntN.{ℤ, pos, negsuc}
 use lib.ListN.{length}
-use Rattle.answer_text.specs.Numbers.{spelled, decimal, signed}
+use Rattle.answer_text.specs.Numbers.{places, decimal, signed}
 use Rattle.answer_text.specs.Lines.{text}
-use Rattle.answer_text.specs.Answers.{Row, Pair, Answer, merged, paired, refused, row, pair, side, header, refusal, lines, answer, rows, rows-text, merged-text}
+use Rattle.answer_text.specs.Answers.{Row, Pair, Answer, merged, paired, refused, row, pair, side, header, refusal, lines, answer}
 use Rattle.answer_text.proofs.Numbers.{Digits, decimal-digits, decimal-some, decimal-tells, signed-tells}
 use Rattle.answer_text.proofs.Lines.{Dark, Line, Lines, text-tells, lines-of, map-tells, table-tells}
 
@@ -22,22 +22,22 @@ example :
     ∷ 49 ∷ 32 ∷ 52 ∷ 32 ∷ 49 ∷ 48 ∷ 48 ∷ 10
     ∷ 53 ∷ 32 ∷ 53 ∷ 32 ∷ 49 ∷ 50 ∷ 48 ∷ 10
     ∷ 54 ∷ 32 ∷ 57 ∷ 32 ∷ 50 ∷ 48 ∷ 10 ∷ []
-unfolding spelled decimal signed
+unfolding places decimal signed
 example = refl
 
 -- the least i64
 least : signed (negsuc 9223372036854775807) ≡ 45 ∷ 57 ∷ 50 ∷ 50 ∷ 51 ∷ 51 ∷ 55 ∷ 50 ∷ 48 ∷ 51 ∷ 54 ∷ 56 ∷ 53 ∷ 52 ∷ 55 ∷ 55 ∷ 53 ∷ 56 ∷ 48 ∷ 56 ∷ []
-unfolding spelled decimal signed
+unfolding places decimal signed
 least = refl
 
 dark-digits : (d : List ℕ) → Digits d → Dark d
 dark-digits [] h = tt
 dark-digits (b ∷ d) h = (omega arith, dark-digits d (h .2))
 
-pub dark-decimal : (n : ℕ) → Dark (decimal n)
+dark-decimal : (n : ℕ) → Dark (decimal n)
 dark-decimal n = dark-digits (decimal n) (decimal-digits n)
 
-pub dark-signed : (a : ℤ) → Dark (signed a)
+dark-signed : (a : ℤ) → Dark (signed a)
 unfolding signed
 dark-signed (pos n) = dark-decimal n
 dark-signed (negsuc n) = (omega arith, dark-decimal (suc n))
@@ -100,18 +100,13 @@ rows-tell rs qs = (table-tells row lined-row row-tells rs qs, ap (λ (l : List R
 pub pairs-tell : (rs qs : List Pair) → (text (map pair rs) ≡ text (map pair qs)) ↔ (rs ≡ qs)
 pairs-tell rs qs = (table-tells pair lined-pair pair-tells rs qs, ap (λ (l : List Pair). text (map pair l)))
 
--- the texts that the code prints, of columns
-pub rows-text-tells : (ss es vs : List ℤ) (n : ℕ) (ts fs ws : List ℤ) (m : ℕ) → rows-text ss es vs n ≡ rows-text ts fs ws m → rows ss es vs n ≡ rows ts fs ws m
-unfolding rows-text
-rows-text-tells ss es vs n ts fs ws m e = rows-tell (rows ss es vs n) (rows ts fs ws m) .0 e
-
 -- an answer's text tells its lines
 lined : (a : Answer) → Lines (lines a)
 lined (merged o c l rs) = (lined-header o c l (length rs), lines-of row lined-row row-tells rs)
 lined (paired o c l ps) = (lined-header o c l (length ps), lines-of pair lined-pair pair-tells ps)
 lined (refused c n) = (lined-refusal c n, tt)
 
-pub answer-tells : (a b : Answer) → answer a ≡ answer b → lines a ≡ lines b
+answer-tells : (a b : Answer) → answer a ≡ answer b → lines a ≡ lines b
 answer-tells a b e = text-tells (lines a) (lines b) (lined a) (lined b) e
 
 -- and so, of one kind of operation, all that was answered; no refusal looks like an answer

@@ -4,7 +4,7 @@ use mathlib.Core.Path.{_≡_, refl, sym, ap, _∙_}
 use mathlib.Core.List.{List, [], _∷_, _++_, map, append-assoc, head-eq-of-cons-eq, tail-eq-of-cons-eq}
 use native.Mathlib.Omega.{arith}
 use lib.ListN.{length, length-append}
-use Rattle.answer_text.specs.Lines.{parted, line, text}
+use Rattle.answer_text.specs.Lines.{line, text}
 
 -- no space, no line feed, nothing below them
 abbrev pub Dark : List ℕ → Type 0
@@ -87,8 +87,3 @@ module _ {R : Type 0} (f : R → List (List ℕ)) (lined : (r : R) → Line (f r
 
   pub table-tells : (rs qs : List R) → text (map f rs) ≡ text (map f qs) → rs ≡ qs
   table-tells rs qs e = map-tells rs qs (text-tells (map f rs) (map f qs) (lines-of rs) (lines-of qs) e)
-
--- a text ends with its last line
-pub text-append : (ls ms : List (List (List ℕ))) → text (ls ++ ms) ≡ text ls ++ text ms
-text-append [] ms = refl
-text-append (l ∷ ls) ms = ap (λ (t : List ℕ). line l ++ t) (text-append ls ms) ∙ sym (append-assoc (line l) (text ls) (text ms))

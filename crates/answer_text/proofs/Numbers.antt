@@ -1,8 +1,8 @@
--- The laws of decimal: its two equations, its digits, its value, and so that it tells its number. Assumes nothing.
+-- The laws of decimal: its two equations, its digits, its value, so that it tells its number; and the kit's contract gives it. Assumes nothing.
 use Prim.Native.Nat.{ℕ, zero, suc, _+_, _-_, _*_, _/_, _%_, _^_, _≤_, _<_}
 use mathlib.Core.Path.{_≡_, refl, sym, ap, _∙_, subst}
-use mathlib.Core.Bool.{Bool, true, false, cond}
-use mathlib.Core.List.{List, [], _∷_, _++_}
+use mathlib.Core.Bool.{Bool, true, false}
+use mathlib.Core.List.{List, [], _∷_, _++_, tail-eq-of-cons-eq}
 use native.Mathlib.Omega.{arith}
 use native.Mathlib.Nat.{mod-lt, div-add-mod', div-lt-self, div-lt-iff-lt-mul, le-div-iff-mul-le, pow-suc, mod-eq-of-lt, one-le-pow}
 use lib.Dec.{ltb}
@@ -10,7 +10,7 @@ use lib.ListN.{length, length-append}
 use lib.IntN.{ℤ, pos, negsuc}
 use borrow.Author.Tests.{lt-ltb, le-ltb, ltb-true, ltb-false}
 use Rattle.io.specs.Digits.{digits, glyph, Fewest}
-use Rattle.answer_text.specs.Numbers.{spelled, decimal, signed}
+use Rattle.answer_text.specs.Numbers.{places, decimal, signed}
 
 -- by cases on a test
 pub by-test : (a b : ℕ) (X : Type 0) → (a < b → X) → (b ≤ a → X) → X
@@ -28,34 +28,42 @@ spell-ind P one more zero n h = absurd (omega arith)
 spell-ind P one more (suc k) n h = by-test n 10 (P n) (one n) (λ g. more n g (spell-ind P one more k (n / 10) (omega (arith, tenth n g))))
 
 -- what holds of the numbers below ten, and of a number where it holds of its tenth, holds of every number
-pub decimal-ind : (P : ℕ → Type 0) → ((n : ℕ) → n < 10 → P n) → ((n : ℕ) → 10 ≤ n → P (n / 10) → P n) → (n : ℕ) → P n
+decimal-ind : (P : ℕ → Type 0) → ((n : ℕ) → n < 10 → P n) → ((n : ℕ) → 10 ≤ n → P (n / 10) → P n) → (n : ℕ) → P n
 decimal-ind P one more n = spell-ind P one more (suc n) n (omega arith)
 
-spelled-one : (k n : ℕ) → n < 10 → spelled (suc k) n ≡ (48 + n) ∷ []
-unfolding spelled
-spelled-one k n h = rw (lt-ltb n 10 h)
+places-one : (k n : ℕ) → n < 10 → places (suc k) n ≡ 1
+unfolding places
+places-one k n h = rw (lt-ltb n 10 h)
 
-spelled-more : (k n : ℕ) → 10 ≤ n → spelled (suc k) n ≡ spelled k (n / 10) ++ ((48 + n % 10) ∷ [])
-unfolding spelled
-spelled-more k n h = rw (le-ltb n 10 h)
+places-more : (k n : ℕ) → 10 ≤ n → places (suc k) n ≡ suc (places k (n / 10))
+unfolding places
+places-more k n h = rw (le-ltb n 10 h)
 
--- any places are enough that exceed the number
-enough : (j k n : ℕ) → n < j → n < k → spelled j n ≡ spelled k n
+-- any bound is enough that exceeds the number
+enough : (j k n : ℕ) → n < j → n < k → places j n ≡ places k n
 enough zero k n h g = absurd (omega arith)
 enough (suc j) zero n h g = absurd (omega arith)
 enough (suc j) (suc k) n h g =
-    by-test n 10 (spelled (suc j) n ≡ spelled (suc k) n)
-    (λ l. spelled-one j n l ∙ sym (spelled-one k n l))
-    (λ l. spelled-more j n l ∙ ap (λ (d : List ℕ). d ++ ((48 + n % 10) ∷ [])) (enough j k (n / 10) (omega (arith, tenth n l)) (omega (arith, tenth n l))) ∙ sym (spelled-more k n l))
+    by-test n 10 (places (suc j) n ≡ places (suc k) n)
+    (λ l. places-one j n l ∙ sym (places-one k n l))
+    (λ l. places-more j n l ∙ ap suc (enough j k (n / 10) (omega (arith, tenth n l)) (omega (arith, tenth n l))) ∙ sym (places-more k n l))
+
+glyph-digit : (d : ℕ) → d < 10 → glyph d ≡ 48 + d
+glyph-digit d h = rw (lt-ltb d 10 h)
+
+last-digit : (n : ℕ) → n % 10 < 10
+last-digit n = mod-lt n (omega arith)
 
 -- the two equations
 pub decimal-one : (n : ℕ) → n < 10 → decimal n ≡ (48 + n) ∷ []
 unfolding decimal
-decimal-one n h = spelled-one n n h
+decimal-one n h = rw (places-one n n h, mod-eq-of-lt h, glyph-digit n h)
 
 pub decimal-more : (n : ℕ) → 10 ≤ n → decimal n ≡ decimal (n / 10) ++ ((48 + n % 10) ∷ [])
 unfolding decimal
-decimal-more n h = spelled-more n n h ∙ ap (λ (d : List ℕ). d ++ ((48 + n % 10) ∷ [])) (enough n (suc (n / 10)) (n / 10) (tenth n h) (omega arith))
+decimal-more n h =
+    rw (places-more n n h, glyph-digit (n % 10) (last-digit n))
+    (ap (λ (k : ℕ). digits 10 k (n / 10) ++ ((48 + n % 10) ∷ [])) (enough n (suc (n / 10)) (n / 10) (tenth n h) (omega arith)))
 
 -- every byte is a digit
 abbrev pub Digits : List ℕ → Type 0
@@ -65,9 +73,6 @@ Digits (b ∷ d) = (48 ≤ b) × (b < 58) × Digits d
 digits-snoc : (d : List ℕ) (b : ℕ) → Digits d → 48 ≤ b → b < 58 → Digits (d ++ (b ∷ []))
 digits-snoc [] b h l u = (l, u, tt)
 digits-snoc (a ∷ d) b h l u = (h .0, h .1, digits-snoc d b (h .2) l u)
-
-last-digit : (n : ℕ) → n % 10 < 10
-last-digit n = mod-lt n (omega arith)
 
 pub decimal-digits : (n : ℕ) → Digits (decimal n)
 decimal-digits =
@@ -123,21 +128,14 @@ decimal-tells m n e = sym (decimal-worth m) ∙ ap (worth 0) e ∙ decimal-worth
 signs : (m n : ℕ) → decimal m ≡ 45 ∷ decimal n → ⊥
 signs m n e = omega (arith, (subst Digits e (decimal-digits m)) .0)
 
-tail-of : List ℕ → List ℕ
-tail-of [] = []
-tail-of (b ∷ d) = d
-
 pub signed-tells : (a b : ℤ) → signed a ≡ signed b → a ≡ b
-unfolding signed tail-of
+unfolding signed
 signed-tells (pos m) (pos n) e = ap pos (decimal-tells m n e)
 signed-tells (pos m) (negsuc n) e = absurd (signs m (suc n) e)
 signed-tells (negsuc m) (pos n) e = absurd (signs n (suc m) (sym e))
-signed-tells (negsuc m) (negsuc n) e = let h = decimal-tells (suc m) (suc n) (ap tail-of e) in ap negsuc (omega arith)
+signed-tells (negsuc m) (negsuc n) e = let h = decimal-tells (suc m) (suc n) (tail-eq-of-cons-eq e) in ap negsuc (omega arith)
 
--- io's digits, where they are the fewest, are those of decimal
-glyph-digit : (d : ℕ) → d < 10 → glyph d ≡ 48 + d
-glyph-digit d h = rw (lt-ltb d 10 h)
-
+-- the kit's digits, where they are the fewest, are those of decimal
 pub digits-decimal : (k n : ℕ) → Fewest 10 1 n k → digits 10 k n ≡ decimal n
 digits-decimal zero n f = absurd (omega arith)
 digits-decimal (suc zero) n f =
