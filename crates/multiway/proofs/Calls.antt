@@ -30,14 +30,14 @@ take-front : {A R : Type 0} (f : R → A) (xs : List R) (l : List A) → take (l
 take-front f xs l = take-at (map f xs) (drop (0 + length xs) l) (length xs) (length-map xs f)
 
 module _ {P : Type 0} {Fits : P → Type 0} {w : Width P} (f : Faithful w Fits) where
-  abbrev rows : List Range → Merged P
+  abbrev pub rows : List Range → Merged P
   rows xs = record { start = map (λ x. w .point (x .start)) xs; end = map (λ x. w .point (x .end)) xs; value = map (λ x. x .value) xs }
 
   same-key : (a b : ℕ) → a < w .points → b < w .points → w .point a ≡ w .point b → a ≡ b
   same-key a b h k e = sym (f .key-point a h) ∙ ap (w .key) e ∙ f .key-point b k
 
   -- pieces are told by what is written of them
-  rows-same : (b b' : ℕ) (xs ys : List Range) → Within b (w .points) xs → Within b' (w .points) ys → rows xs ≡ rows ys → xs ≡ ys
+  pub rows-same : (b b' : ℕ) (xs ys : List Range) → Within b (w .points) xs → Within b' (w .points) ys → rows xs ≡ rows ys → xs ≡ ys
   rows-same b b' [] [] u v e = refl
   rows-same b b' [] (y ∷ ys) u v e = let q = ap (λ (c : Merged P). length (c .value)) e in absurd (omega arith)
   rows-same b b' (x ∷ xs) [] u v e = let q = ap (λ (c : Merged P). length (c .value)) e in absurd (omega arith)

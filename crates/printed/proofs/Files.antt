@@ -1,0 +1,142 @@
+-- What a reader of a printed text can rely on: it has the pieces of the rule, and it tells them; neither 4 nor 8 comes of a file. Assumes nothing.
+use Prim.Native.Nat.{ℕ, _<_}
+use mathlib.Core.Path.{_≡_, refl, sym, ap, subst, _∙_}
+use mathlib.Core.Logic.{_↔_, _≢_}
+use mathlib.Core.Option.{Option, none, some}
+use mathlib.Core.List.{List, [], _∷_, map}
+use native.Mathlib.Omega.{arith}
+use lib.IntN.{ℤ, pos}
+use lib.ListN.{length, length-map}
+use Rattle.rules.specs.Piece.{Range, column, AllWellFormed}
+use Rattle.rules.specs.Lists.{Lent, instants, lists, tracks}
+use Rattle.rules.specs.Answer.{judge}
+use Rattle.rules.specs.Merged.{Merged}
+use Rattle.rules.specs.TwoWay.{paired}
+use Rattle.rules.specs.Refusals.{Formed}
+use Rattle.rules.specs.declared.Judgement.the-variants.{Sound as SoundLists}
+use Rattle.rules.specs.declared.Pairing.{Pairing}
+use Rattle.rules.proofs.Refusals.{lists-formed}
+use Rattle.many_way_rules.specs.Sheet.{Tariff, lend}
+use Rattle.many_way_rules.specs.Operations as operations
+use Rattle.many_way_rules.specs.Operations.{rule-of, merged}
+use Rattle.many_way_rules.specs.declared.Operation.{Operation}
+use Rattle.many_way_rules.specs.declared.Operation.the-variants.{Join as Joining, Select as Selecting}
+use Rattle.many_way_rules.proofs.Condition3.{merged-right, merged-same}
+use Rattle.integer.proofs.Laws.{faithful-instants}
+use Rattle.multiway.proofs.Calls.{rows, rows-same}
+use Rattle.tariff_file.specs.File.{Head, Reading, accepted, task-of, read, Sound}
+use Rattle.tariff_file.specs.declared.Task.{Task}
+use Rattle.tariff_file.specs.declared.Task.the-variants.{Pair, Join, Select}
+use Rattle.tariff_file.proofs.Columns.{kind-of}
+use Rattle.answer_text.specs.Answers as text
+use Rattle.answer_text.specs.Answers.{Row, row, pair, answer}
+use Rattle.answer_text.specs.Lines as lines
+use Rattle.answer_text.proofs.Answers.{rows-tell, pairs-tell}
+use Rattle.printed.specs.Printed.{answered, asked, performed, merged-answer, paired-answer, printed}
+use Rattle.printed.proofs.Accepted.{Accepted, sound, judged, formed-lists}
+use Rattle.printed.proofs.Answers.{row-of, pair-of, place-value, merged-answered, paired-answered}
+
+-- the many-way operation that a task is, with its combiner
+abbrev pub many-way : Task → ℕ → Option Operation
+many-way (Pair p) c = none
+many-way (Join a) c = some (Joining a c)
+many-way (Select p a) c = some (Selecting p a)
+
+abbrev pub two-way : Task → Option Pairing
+two-way (Pair p) = some p
+two-way (Join a) = none
+two-way (Select p a) = none
+
+module _ {b : List ℕ} {h : Head} {ls : List (Tariff ℤ)} (a : Accepted b h ls) where
+  performs : answered (read b) ≡ performed h (sound a .task) (lend ls)
+  performs = ap answered (a .reading) ∙ ap (λ t. asked h t (lend ls)) (sound a .operation-known)
+
+  long : length (lend ls .counts) ≡ length ls
+  long = length-map ls length
+
+  -- a file of a two-way operation prints a row for each of its pieces
+  module _ (p : Pairing) (m : two-way (sound a .task) ≡ some p) where
+    as-pair : sound a .task ≡ Pair p
+    as-pair = go (sound a .task) m
+      where
+        go : (t : Task) → two-way t ≡ some p → t ≡ Pair p
+        go (Pair q) e = let s : q ≡ p = cc in ap Pair s
+        go (Join a) e = absurd (let no : _≡_ {A = ℕ} 0 1 = cc in omega arith)
+        go (Select q a) e = absurd (let no : _≡_ {A = ℕ} 0 1 = cc in omega arith)
+
+    pub two-way-printed : printed b ≡ answer (text.paired (h .operation) (h .combiner) (length ls) (map (pair-of (place-value h (lend ls))) (paired p (instants .points) (tracks instants (lend ls)))))
+    unfolding printed
+    two-way-printed =
+        ap answer
+        (performs
+        ∙ ap (λ t. performed h t (lend ls)) as-pair
+        ∙ paired-answered h (lend ls) p (rw as-pair at (judged a)) (rw as-pair at (formed-lists a))
+        ∙ ap (λ (n : ℕ). text.paired (h .operation) (h .combiner) n (map (pair-of (place-value h (lend ls))) (paired p (instants .points) (tracks instants (lend ls))))) long)
+
+  -- and one of a many-way operation
+  module _ (o : Operation) (m : many-way (sound a .task) (h .combiner) ≡ some o) where
+    abbrev pub pieces : List Range
+    pieces = merged o (instants .points) (lists instants (lend ls))
+
+    same-kind : kind-of (sound a .task) (h .combiner) ≡ operations.kind-of o
+    same-kind = go (sound a .task) m
+      where
+        go : (t : Task) → many-way t (h .combiner) ≡ some o → kind-of t (h .combiner) ≡ operations.kind-of o
+        go (Pair q) e = absurd (let no : _≡_ {A = ℕ} 0 1 = cc in omega arith)
+        go (Join a) e = let s : Joining a (h .combiner) ≡ o = cc in ap operations.kind-of s
+        go (Select q a) e = let s : Selecting q a ≡ o = cc in ap operations.kind-of s
+
+    as-many : performed h (sound a .task) (lend ls) ≡ merged-answer h o (lend ls)
+    as-many = go (sound a .task) m
+      where
+        go : (t : Task) → many-way t (h .combiner) ≡ some o → performed h t (lend ls) ≡ merged-answer h o (lend ls)
+        go (Pair q) e = absurd (let no : _≡_ {A = ℕ} 0 1 = cc in omega arith)
+        go (Join a) e = let s : Joining a (h .combiner) ≡ o = cc in ap (λ (o : Operation). merged-answer h o (lend ls)) s
+        go (Select q a) e = let s : Selecting q a ≡ o = cc in ap (λ (o : Operation). merged-answer h o (lend ls)) s
+
+    pub formed-many : AllWellFormed (instants .points) (lists instants (lend ls))
+    formed-many = lists-formed (rw same-kind at (formed-lists a))
+
+    pub many-way-printed : printed b ≡ answer (text.merged (h .operation) (h .combiner) (length ls) (map row-of pieces))
+    unfolding printed
+    many-way-printed =
+        ap answer
+        (performs
+        ∙ as-many
+        ∙ merged-answered h (lend ls) o (rw same-kind at (judged a)) (rw same-kind at (formed-lists a))
+        ∙ ap (λ (n : ℕ). text.merged (h .operation) (h .combiner) n (map row-of pieces)) long)
+
+-- rows as columns
+map-map : {A B C : Type 0} (g : B → C) (f : A → B) (xs : List A) → map g (map f xs) ≡ map (λ x. g (f x)) xs
+map-map g f [] = refl
+map-map {C = C} g f (x ∷ xs) = ap (λ (l : List C). g (f x) ∷ l) (map-map g f xs)
+
+abbrev columns : List Row → Merged ℤ
+columns rs = record { start = map (λ r. r .start) rs; end = map (λ r. r .end) rs; value = map (λ r. r .value) rs }
+
+columns-of : (xs : List Range) → columns (map row-of xs) ≡ rows faithful-instants xs
+columns-of xs j = record { start = map-map (λ (r : Row). r .start) row-of xs j; end = map-map (λ (r : Row). r .end) row-of xs j; value = map-map (λ (r : Row). r .value) row-of xs j }
+
+-- two files of many-way operations print the same rows exactly when their rules agree at every point, however their lists were cut up
+module _ {b b' : List ℕ} {h h' : Head} {ls ls' : List (Tariff ℤ)} (a : Accepted b h ls) (a' : Accepted b' h' ls') where
+  module _ (o o' : Operation) (m : many-way (sound a .task) (h .combiner) ≡ some o) (m' : many-way (sound a' .task) (h' .combiner) ≡ some o') where
+    told-rows : lines.text (map row (map row-of (pieces a o m))) ≡ lines.text (map row (map row-of (pieces a' o' m'))) → pieces a o m ≡ pieces a' o' m'
+    told-rows e =
+        let r = rows-tell (map row-of (pieces a o m)) (map row-of (pieces a' o' m')) .0 e in
+        rows-same faithful-instants 0 0 (pieces a o m) (pieces a' o' m')
+        (merged-right (instants .points) o (lists instants (lend ls)) (formed-many a o m) .ascending)
+        (merged-right (instants .points) o' (lists instants (lend ls')) (formed-many a' o' m') .ascending)
+        (sym (columns-of (pieces a o m)) ∙ ap columns r ∙ columns-of (pieces a' o' m'))
+
+    pub same-rows : (lines.text (map row (map row-of (pieces a o m))) ≡ lines.text (map row (map row-of (pieces a' o' m'))))
+        ↔ ((p : ℕ) → p < instants .points → rule-of o (column (lists instants (lend ls)) p) ≡ rule-of o' (column (lists instants (lend ls')) p))
+    same-rows =
+        let same = merged-same (instants .points) o (lists instants (lend ls)) (formed-many a o m) o' (lists instants (lend ls')) (formed-many a' o' m') in
+        (λ e. same .0 (told-rows e), λ e. ap (λ (xs : List Range). lines.text (map row (map row-of xs))) (same .1 e))
+
+  -- two of two-way operations, exactly when they have the same pieces
+  pub same-pairs : (p p' : Pairing) → two-way (sound a .task) ≡ some p → two-way (sound a' .task) ≡ some p' →
+      let ps = map (pair-of (place-value h (lend ls))) (paired p (instants .points) (tracks instants (lend ls))) in
+      let qs = map (pair-of (place-value h' (lend ls'))) (paired p' (instants .points) (tracks instants (lend ls'))) in
+      (lines.text (map pair ps) ≡ lines.text (map pair qs)) ↔ (ps ≡ qs)
+  same-pairs p p' m m' = pairs-tell _ _
