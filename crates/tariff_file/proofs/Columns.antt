@@ -46,7 +46,7 @@ parted-back (l ∷ ls) = λ i. take-at l (flat ls) (length l) refl i ∷ (ap (pa
 pub lists-lent : (ls : List (Tariff ℤ)) → lists-of (lend ls) ≡ ls
 lists-lent ls = ap (parted (map length ls)) (zipped-back (flat ls)) ∙ parted-back ls
 
-total-flat : (ls : List (Tariff ℤ)) → total (map length ls) ≡ length (flat ls)
+pub total-flat : (ls : List (Tariff ℤ)) → total (map length ls) ≡ length (flat ls)
 total-flat [] = refl
 total-flat (l ∷ ls) = omega (arith, length-append l (flat ls), total-flat ls)
 

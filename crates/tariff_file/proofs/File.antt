@@ -8,18 +8,18 @@ use native.Mathlib.Omega.{arith}
 use lib.Dec.{ltb, leb}
 use lib.IntN.{ℤ}
 use lib.ListN.{length, getElem?, take, length-append, length-take}
-use borrow.Author.Tests.{ltb-true, ltb-false, lt-ltb, le-ltb, leb-true, le-leb, eqb-true}
+use borrow.Author.Tests.{lt-ltb, le-ltb, leb-true, le-leb, eqb-true}
 use Rattle.rules.specs.Lists.{total}
-use Rattle.many_way_rules.specs.Combiners.{known}
+use Rattle.rules.specs.declared.Answer.{Answer}
 use Rattle.many_way_rules.specs.Sheet.{Typed, Tariff, flat}
-use Rattle.tariff_file.specs.Layout.{Bytes, Field, AllHold, Layout, Held, sizes, values-bytes, record-bytes}
-use Rattle.tariff_file.specs.Reader.{Parsed, stop, got, Reader, Fault, one, many, record-at, follow, _then_}
-use Rattle.tariff_file.specs.File.{head-layout, list-layout, range-layout, operations, task-of, lists-right, combiner-right, Head, File, head-held, list-held, range-held, held-range, range-records, list-records, records, written, unless, asked-of, head-fault, list-fault, read-range, read-ranges, read-list, read-lists, read-file, Reading, refused, accepted, finish, records-of, checked, read, AllRanges, AllLists, Sound}
+use Rattle.tariff_file.specs.Layout.{Bytes, AllHold, Layout, Held, sizes, record-bytes}
+use Rattle.tariff_file.specs.Reader.{Parsed, stop, got, Reader, Fault, one, record-at, _then_}
+use Rattle.tariff_file.specs.File.{head-layout, list-layout, range-layout, operations, task-of, lists-right, combiner-right, Head, File, head-held, list-held, range-held, held-range, range-records, list-records, records, written, unless, asked-of, head-fault, list-fault, read-range, read-ranges, read-list, read-lists, read-file, refused, ill-formed, accepted, finish, records-of, AllRanges, AllLists, Sound}
 use Rattle.tariff_file.specs.declared.Refusal.{Refusal}
 use Rattle.tariff_file.specs.declared.Refusal.the-variants.{TooLong, CutShort, LeftOver, TooManyLists, NotTwoLists, UnknownCombiner, TooManyRanges}
 use Rattle.tariff_file.specs.declared.Task.{Task}
 use Rattle.tariff_file.specs.declared.Task.the-variants.{Pair, Join, Select}
-use Rattle.tariff_file.proofs.Sequence.{Reads, Only, Format, only-weaken, reformat, reads-then, only-then, reads-last, only-last, many-format, AllOk, flat-append, bytes-both}
+use Rattle.tariff_file.proofs.Sequence.{Reads, Format, only-weaken, reformat, reads-then, only-then, reads-last, only-last, many-format, AllOk, flat-append, bytes-both}
 use Rattle.tariff_file.proofs.Record.{values-long, record-is-bytes, one-format, Fine, single}
 
 -- a range
@@ -229,13 +229,13 @@ written-bytes h ls s =
     (lists-are-bytes ls (s .few-ranges) (s .all-held))
 
 -- where a file is not too long
-pub read-short : (b : List ℕ) → length b ≤ 45126 → records-of b ≡ finish (read-file 0 b)
+pub records-short : (b : List ℕ) → length b ≤ 45126 → records-of b ≡ finish (read-file 0 b)
 unfolding records-of
-read-short b h = λ i. cond (le-ltb 45126 (length b) h i) (refused TooLong) (finish (read-file 0 b))
+records-short b h = λ i. cond (le-ltb 45126 (length b) h i) (refused TooLong) (finish (read-file 0 b))
 
-pub too-long : (b : List ℕ) → 45126 < length b → records-of b ≡ refused TooLong
+pub records-long : (b : List ℕ) → 45126 < length b → records-of b ≡ refused TooLong
 unfolding records-of
-too-long b h = λ i. cond (lt-ltb 45126 (length b) h i) (refused TooLong) (finish (read-file 0 b))
+records-long b h = λ i. cond (lt-ltb 45126 (length b) h i) (refused TooLong) (finish (read-file 0 b))
 
 module _ (h : Head) (ls : List (Tariff ℤ)) (s : Sound h ls) where
   reads-file : Reads read-file (h, ls) (records (h, ls))
@@ -245,32 +245,32 @@ module _ (h : Head) (ls : List (Tariff ℤ)) (s : Sound h ls) where
   sound-long = omega (arith, written-long h ls, s .few-lists, s .few-ranges)
 
   -- (a) what is written is read
-  pub read-written : records-of (written h ls) ≡ accepted h ls
-  read-written =
-      read-short (written h ls) sound-long
+  pub records-written : records-of (written h ls) ≡ accepted h ls
+  records-written =
+      records-short (written h ls) sound-long
       ∙ (λ i. finish (read-file 0 (sym (append-nil (written h ls)) i)))
       ∙ ap finish (reads-file .whole 0 [])
 
   -- (c) a proper front is cut short at the record that it cuts
-  pub read-front : (n : ℕ) → n < length (written h ls) → records-of (take n (written h ls)) ≡ refused (CutShort (record-at n (records (h, ls))))
-  read-front n l =
+  pub records-front : (n : ℕ) → n < length (written h ls) → records-of (take n (written h ls)) ≡ refused (CutShort (record-at n (records (h, ls))))
+  records-front n l =
       let z : 0 + record-at n (records (h, ls)) ≡ record-at n (records (h, ls)) = omega arith in
-      read-short (take n (written h ls)) (omega (arith, length-take n (written h ls), sound-long))
+      records-short (take n (written h ls)) (omega (arith, length-take n (written h ls), sound-long))
       ∙ ap finish (reads-file .front 0 n l)
       ∙ ap (λ (k : ℕ). refused (CutShort k)) z
 
   -- (d) bytes after it are left over
-  pub read-more : (x : ℕ) (more : List ℕ) → length (written h ls ++ (x ∷ more)) ≤ 45126 → records-of (written h ls ++ (x ∷ more)) ≡ refused (LeftOver (length (written h ls)))
-  read-more x more l =
+  pub records-more : (x : ℕ) (more : List ℕ) → length (written h ls ++ (x ∷ more)) ≤ 45126 → records-of (written h ls ++ (x ∷ more)) ≡ refused (LeftOver (length (written h ls)))
+  records-more x more l =
       let z : 0 + length (written h ls) ≡ length (written h ls) = omega arith in
-      read-short (written h ls ++ (x ∷ more)) l
+      records-short (written h ls ++ (x ∷ more)) l
       ∙ ap finish (reads-file .whole 0 (x ∷ more))
       ∙ ap (λ (k : ℕ). refused (LeftOver k)) z
 
 -- (b) whatever is accepted is sound, and written of what it gives
-pub accepted-written : (b : List ℕ) (h : Head) (ls : List (Tariff ℤ)) → Bytes b → records-of b ≡ accepted h ls → (b ≡ written h ls) × Sound h ls
+pub records-accepted : (b : List ℕ) (h : Head) (ls : List (Tariff ℤ)) → Bytes b → records-of b ≡ accepted h ls → (b ≡ written h ls) × Sound h ls
 unfolding records-of
-accepted-written b h ls y e = long (ltb 45126 (length b)) e
+records-accepted b h ls y e = long (ltb 45126 (length b)) e
   where
     go : (r : Parsed File) → read-file 0 b ≡ r → finish r ≡ accepted h ls → (b ≡ written h ls) × Sound h ls
     go (stop r) q e = absurd (let no : _≡_ {A = ℕ} 0 1 = cc in omega arith)
@@ -285,14 +285,16 @@ accepted-written b h ls y e = long (ltb 45126 (length b)) e
     long true e = absurd (let no : _≡_ {A = ℕ} 0 1 = cc in omega arith)
     long false e = go (read-file 0 b) refl e
 
--- and so of any file that is accepted
-module _ (b : List ℕ) (h : Head) (ls : List (Tariff ℤ)) (y : Bytes b) (e : records-of b ≡ accepted h ls) where
-  pub accepted-front : (n : ℕ) → n < length b → records-of (take n b) ≡ refused (CutShort (record-at n (records (h, ls))))
-  accepted-front n l =
-      let w = accepted-written b h ls y e in
-      ap (λ (x : List ℕ). records-of (take n x)) (w .0) ∙ read-front h ls (w .1) n (omega (arith, ap length (w .0)))
+-- the records alone tell nothing of the ranges' form
+pub records-formed : (b : List ℕ) (a : Answer) → records-of b ≡ ill-formed a → ⊥
+unfolding records-of
+records-formed b a e = long (ltb 45126 (length b)) e
+  where
+    go : (r : Parsed File) → finish r ≡ ill-formed a → ⊥
+    go (stop r) e = let no : _≡_ {A = ℕ} 0 1 = cc in omega arith
+    go (got (h, ls) at []) e = let no : _≡_ {A = ℕ} 0 1 = cc in omega arith
+    go (got (h, ls) at (x ∷ b)) e = let no : _≡_ {A = ℕ} 0 1 = cc in omega arith
 
-  pub accepted-more : (x : ℕ) (more : List ℕ) → length (b ++ (x ∷ more)) ≤ 45126 → records-of (b ++ (x ∷ more)) ≡ refused (LeftOver (length b))
-  accepted-more x more l =
-      let w = accepted-written b h ls y e in
-      subst (λ (c : List ℕ). length (c ++ (x ∷ more)) ≤ 45126 → records-of (c ++ (x ∷ more)) ≡ refused (LeftOver (length c))) (sym (w .0)) (read-more h ls (w .1) x more) l
+    long : (t : Bool) → cond t (refused TooLong) (finish (read-file 0 b)) ≡ ill-formed a → ⊥
+    long true e = let no : _≡_ {A = ℕ} 0 1 = cc in omega arith
+    long false e = go (read-file 0 b) e

@@ -17,7 +17,7 @@ use Rattle.tariff_file.specs.declared.Refusal.{Refusal}
 use Rattle.tariff_file.specs.declared.Refusal.the-variants.{LeftOver, TooManyRanges}
 use Rattle.tariff_file.specs.declared.Passed.the-variants.{Past, Stopped}
 use Rattle.tariff_file.proofs.Places.{bytes-of, ended, halted, left-at, many-stop, one-there, Turn, turn}
-use Rattle.tariff_file.proofs.File.{ranges-format, list-format, lists-format, read-short}
+use Rattle.tariff_file.proofs.File.{ranges-format, list-format, lists-format, records-short}
 
 module _ (s : List ℕ) (before at : ℕ) where
   -- the count that the list at `at` has
@@ -81,7 +81,7 @@ module _ (s : List ℕ) (short : length s ≤ 45126) (v : Held head-layout) (e :
 
   file-is : (r : Parsed (List (Tariff ℤ))) → read-lists (v .1 .1 .0) 0 6 (drop 6 s) ≡ r → records-of s ≡ finish (follow r (λ ls. got (head-of, ls)))
   unfolding read-file
-  file-is r q = read-short s short ∙ ap (λ r. finish (follow r (λ v. read-lists (v .1 .1 .0) 0 then (λ ls. got (record { operation = v .0; combiner = v .1 .0 }, ls))))) e ∙ ap (λ r. finish (follow r (λ ls. got (head-of, ls)))) q
+  file-is r q = records-short s short ∙ ap (λ r. finish (follow r (λ v. read-lists (v .1 .1 .0) 0 then (λ ls. got (record { operation = v .0; combiner = v .1 .0 }, ls))))) e ∙ ap (λ r. finish (follow r (λ ls. got (head-of, ls)))) q
 
   pub file-stops : (x : Refusal) → Stopped x ≡ passed (read-lists (v .1 .1 .0) 0 6 (drop 6 s)) → records-of s ≡ refused x
   file-stops x q = file-is (stop x) (halted (read-lists (v .1 .1 .0) 0 6 (drop 6 s)) x (sym q))
