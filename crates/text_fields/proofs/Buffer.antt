@@ -1,16 +1,14 @@
 -- Texts in a buffer: one after the other, one byte, a copy; at the front. Assumes nothing.
-use Prim.Native.Nat.{ℕ, suc, _+_, _-_, _≤_, _<_}
+use Prim.Native.Nat.{ℕ, _+_, _≤_, _<_}
 use mathlib.Core.Path.{_≡_, refl, sym, ap, _∙_}
-use mathlib.Core.Bool.{true, false, cond}
-use mathlib.Core.List.{List, [], _∷_, _++_, append-assoc, append-nil}
+use mathlib.Core.List.{List, [], _∷_, _++_, append-assoc}
 use native.Mathlib.Nat.{add-assoc, add-zero, zero-add}
 use native.Mathlib.Omega.{arith}
 use native.Mathlib.Numerals.{add-one}
-use lib.Dec.{leb}
 use lib.ListN.{length, take, drop, set, length-append, length-drop, length-set, take-append-drop}
 use lib.Seq.{length-take-le, take-at, drop-append-add, drop-drop, set-split, paste, take-length}
 use borrow.Author.Tests.{le-leb, lt-leb}
 use Rattle.answer_text.specs.Buffer.{over, Room, Put, leaves, print}
 
 module _ (at : ℕ) (s old : List ℕ) (h : at + length s ≤ length old) where
   head-long : length (take at old) ≡ at
@@ -64,6 +62,17 @@ put-none at old = record { after = sym (add-zero at); bytes = sym (rw add-zero (
 -- one byte
 pub put-one : (at b : ℕ) (old : List ℕ) → at < length old → Put at (b ∷ []) old (set old at b) (at + 1)
 put-one at b old h = record { after = refl; bytes = rw add-one (set-split old at b h) }
+
+-- a text and the byte after it: there is room for the text, then for the byte
+module _ (at b : ℕ) (s old : List ℕ) (h : Room at (s ++ (b ∷ [])) old) where
+  pub first-room : Room at s old
+  first-room = omega (arith, length-append s (b ∷ []))
+
+  pub mark-room : {r : ℕ} {mid : List ℕ} → Put at s old mid r → r < length mid
+  mark-room {r} {mid} a = omega (arith, room-left at r s (b ∷ []) old mid h a)
+
+  pub marked : {r : ℕ} {mid : List ℕ} → Put at s old mid r → Put at (s ++ (b ∷ [])) old (set mid r b) (r + 1)
+  marked {r} {mid} a = puts first-room a (put-one r b mid (mark-room a))
 
 -- two bytes
 pub put-two : (at b d : ℕ) (old : List ℕ) → at + 1 < length old → Put at (b ∷ d ∷ []) old (set (set old at b) (at + 1) d) (at + 2)

@@ -1,8 +1,8 @@
--- Signed numbers that went through locals: their size, and their text by the sign. Assumes nothing.
-use Prim.Native.Nat.{ℕ, zero, suc, _+_, _-_, _<_, _≤_, _^_}
+-- Signed numbers that went through locals: their size, their text by the sign, and a side's text by its presence. Assumes nothing.
+use Prim.Native.Nat.{ℕ, suc, _+_, _-_, _<_, _≤_, _^_}
 use mathlib.Core.Path.{_≡_, refl, sym, ap, _∙_}
-use mathlib.Core.Bool.{true, false}
-use mathlib.Core.List.{List, [], _∷_, _++_}
+use mathlib.Core.Bool.{Bool, true, false}
+use mathlib.Core.List.{List, [], _∷_}
 use native.Mathlib.Omega.{arith}
 use native.Mathlib.Nat.{pow-le-pow-right}
 use lib.Dec.{T}
@@ -10,16 +10,15 @@ use lib.IntN.{ℤ, pos, negsuc, natAbs, _-ℤ_}
 use lib.ListN.{length, take}
 use lib.Signed.{ltZ, mag, nonNeg}
 use borrow.Author.Tests.{le-ltb, ltb-true}
-use mir.Syntax.{Width, w32, w64}
-use mir.Val.{Fits, SFits, hbits, ofZ, toZ}
-use mir.ValLaws.{toZ-ofZ, toZ-pos}
+use mir.Syntax.{w32, w64}
+use mir.Val.{Fits, SFits, ofZ, toZ}
+use mir.ValLaws.{toZ-pos}
 use Rattle.io.specs.Counts.{Counts}
 use Rattle.io.specs.Digits.{digits, Fewest}
+use Rattle.integer.proofs.Laws.{back, wide}
 use Rattle.answer_text.specs.Numbers.{decimal, signed}
+use Rattle.answer_text.specs.Answers.{side, present}
 use Rattle.answer_text.proofs.Numbers.{by-test, digits-decimal}
-
-pub back : (w : Width) (a : ℤ) → mag a < 2 ^ hbits w → toZ w (ofZ w a) ≡ a
-back w a f = toZ-ofZ w a (record { sfits = f })
 
 abbrev Unsigned : ℤ → Type 0
 Unsigned z = T (nonNeg z) × Fits w64 (natAbs z)
@@ -80,9 +79,9 @@ spelt n k l f h =
     let b : take k l ≡ decimal n = h .1 .1 ∙ digits-decimal k n (h .1 .0) in
     record { few = few-digits n k f (h .1 .0); within = h .0 .0; bytes = b; long = h .0 .1 ∙ ap length b }
 
--- an i32 as an i64
-pub widened : (a : ℤ) → mag a < 2 ^ 31 → let x = toZ w32 (ofZ w32 a) in SFits w64 x × (toZ w64 (ofZ w64 x) ≡ a)
-widened a f = rw (back w32 a f) (record { sfits = omega arith }, back w64 a (omega arith))
+-- a side by its presence, of a value that was widened
+pub here : (b : Bool) (v : ℤ) → mag v < 2 ^ 31 → b ≡ true → side (present b v) ≡ signed (toZ w64 (ofZ w64 (toZ w32 (ofZ w32 v))))
+here b v f e = ap (λ (t : Bool). side (present t v)) e ∙ ap signed (sym (wide v f .1))
 
-pub widened-back : (a r : ℤ) → mag a < 2 ^ 31 → r ≡ toZ w32 (ofZ w32 a) → toZ w64 (ofZ w64 r) ≡ a
-widened-back a r f e = ap (λ (z : ℤ). toZ w64 (ofZ w64 z)) e ∙ widened a f .1
+pub missing : (b : Bool) (v : ℤ) → b ≡ false → side (present b v) ≡ 45 ∷ []
+missing b v e = ap (λ (t : Bool). side (present t v)) e

@@ -1,0 +1,3 @@
+-- What the proofs of fields use: texts in a buffer, and signed numbers that went through locals.
+pub mod Buffer
+pub mod Signs

@@ -1,0 +1,108 @@
+// Numbers and fields of the text into a lent buffer: how many bytes each takes, and the bytes from a place on.
+ghost use Prim.Native.Nat.{_≤_};
+ghost use mathlib.Core.Path.{_≡_};
+ghost use mathlib.Core.List.{[], _∷_, _++_};
+ghost use lib.IntN.{natAbs};
+ghost use lib.ListN.{length};
+ghost use Rattle.answer_text.specs.Numbers.{decimal, signed};
+ghost use Rattle.answer_text.specs.Answers.{side, present};
+ghost use Rattle.answer_text.specs.Buffer.{Room, Put};
+
+// How far a number is from 0.
+fn size(z: i64) -> u64
+    ensures { λ r. ⌜ r ≡ natAbs z ⌝ }
+{
+    if z < 0 { (-1 - z) as u64 + 1 } else { z as u64 }
+}
+
+// How many digits a natural number has.
+pub fn digits_width(n: u64) -> usize
+    ensures { λ r. ⌜ (r ≡ length (decimal n)) × (r ≤ 20) ⌝ }
+{
+    let mut digits: [u8; 20] = [0; 20];
+    io::decimal(n, &mut digits)
+}
+
+// How many bytes a number takes.
+pub fn width(z: i64) -> usize
+    ensures { λ r. ⌜ (r ≡ length (signed z)) × (r ≤ 21) ⌝ }
+{
+    let n = digits_width(size(z));
+    if z < 0 { n + 1 } else { n }
+}
+
+// How many bytes a side of a two-way row takes.
+pub fn side_width(value: i32, there: bool) -> usize
+    ensures { λ r. ⌜ (r ≡ length (side (present there value))) × (r ≤ 21) ⌝ }
+{
+    if there { width(value as i64) } else { 1 }
+}
+
+// Writes a word at a place. Each of these answers the place after what it wrote.
+pub fn put_word(word: &[u8], place: usize, out: &mut [u8]) -> usize
+    requires { ⌜ Room place (now word) (now out) ⌝ }
+    ensures { λ r. ⌜ Put place (now (word .entry)) (now (out .entry)) (now (out .exit)) r ⌝ }
+{
+    let mut i: usize = 0;
+    while i < word.len() {
+        out[place + i] = word[i];
+        i += 1;
+    }
+    place + word.len()
+}
+
+fn put_digits(n: u64, place: usize, out: &mut [u8]) -> usize
+    requires { ⌜ Room place (decimal n) (now out) ⌝ }
+    ensures { λ r. ⌜ Put place (decimal n) (now (out .entry)) (now (out .exit)) r ⌝ }
+{
+    let mut digits: [u8; 20] = [0; 20];
+    let k = io::decimal(n, &mut digits);
+    put_word(&digits[..k], place, out)
+}
+
+fn put_number(z: i64, place: usize, out: &mut [u8]) -> usize
+    requires { ⌜ Room place (signed z) (now out) ⌝ }
+    ensures { λ r. ⌜ Put place (signed z) (now (out .entry)) (now (out .exit)) r ⌝ }
+{
+    let n = size(z);
+    if z < 0 {
+        out[place] = b'-';
+        put_digits(n, place + 1, out)
+    } else {
+        put_digits(n, place, out)
+    }
+}
+
+// Writes a natural number and the byte after it.
+pub fn put_count(n: u64, mark: u8, place: usize, out: &mut [u8]) -> usize
+    requires { ⌜ Room place (decimal n ++ (mark ∷ [])) (now out) ⌝ }
+    ensures { λ r. ⌜ Put place (decimal n ++ (mark ∷ [])) (now (out .entry)) (now (out .exit)) r ⌝ }
+{
+    let at = put_digits(n, place, out);
+    out[at] = mark;
+    at + 1
+}
+
+// Writes a number and the byte after it.
+pub fn put_field(z: i64, mark: u8, place: usize, out: &mut [u8]) -> usize
+    requires { ⌜ Room place (signed z ++ (mark ∷ [])) (now out) ⌝ }
+    ensures { λ r. ⌜ Put place (signed z ++ (mark ∷ [])) (now (out .entry)) (now (out .exit)) r ⌝ }
+{
+    let at = put_number(z, place, out);
+    out[at] = mark;
+    at + 1
+}
+
+// Writes a side of a two-way row, which may be missing, and the byte after it.
+pub fn put_side(value: i32, there: bool, mark: u8, place: usize, out: &mut [u8]) -> usize
+    requires { ⌜ Room place (side (present there value) ++ (mark ∷ [])) (now out) ⌝ }
+    ensures { λ r. ⌜ Put place (side (present there value) ++ (mark ∷ [])) (now (out .entry)) (now (out .exit)) r ⌝ }
+{
+    if there {
+        put_field(value as i64, mark, place, out)
+    } else {
+        out[place] = b'-';
+        out[place + 1] = mark;
+        place + 2
+    }
+}
