@@ -1,7 +1,7 @@
 -- What a reader of a printed text can rely on: it has the pieces of the rule, and it tells them; neither 4 nor 8 comes of a file. Assumes nothing.
 use Prim.Native.Nat.{ℕ, _<_}
 use mathlib.Core.Path.{_≡_, refl, sym, ap, subst, _∙_}
-use mathlib.Core.Logic.{_↔_, _≢_}
+use mathlib.Core.Logic.{_↔_, _≢_, _⊎_, inl, inr}
 use mathlib.Core.Option.{Option, none, some}
 use mathlib.Core.List.{List, [], _∷_, map}
 use native.Mathlib.Omega.{arith}
@@ -9,7 +9,9 @@ use lib.IntN.{ℤ, pos}
 use lib.ListN.{length, length-map}
 use Rattle.rules.specs.Piece.{Range, column, AllWellFormed}
 use Rattle.rules.specs.Lists.{Lent, instants, lists, tracks}
-use Rattle.rules.specs.Answer.{judge}
+use Rattle.rules.specs.Answer.{judge, code-of}
+use Rattle.rules.specs.declared.Answer.{Answer}
+use Rattle.rules.specs.declared.Answer.the-variants.{Backward, Overlap}
 use Rattle.rules.specs.Merged.{Merged}
 use Rattle.rules.specs.TwoWay.{paired}
 use Rattle.rules.specs.Refusals.{Formed}
@@ -24,7 +26,12 @@ use Rattle.many_way_rules.specs.declared.Operation.the-variants.{Join as Joinin
 use Rattle.many_way_rules.proofs.Condition3.{merged-right, merged-same}
 use Rattle.integer.proofs.Laws.{faithful-instants}
 use Rattle.multiway.proofs.Calls.{rows, rows-same}
-use Rattle.tariff_file.specs.File.{Head, Reading, accepted, task-of, read, Sound}
+use Rattle.tariff_file.specs.Layout.{Bytes}
+use Rattle.tariff_file.specs.File as file
+use Rattle.tariff_file.specs.File.{Head, Reading, ill-formed, accepted, task-of, read, Sound}
+use Rattle.tariff_file.specs.declared.Refusal.{Refusal}
+use Rattle.tariff_file.specs.declared.Refusal.the-variants.{TooLong, WrongMark, CutShort, LeftOver, UnknownOperation, TooManyLists, NotTwoLists, UnknownCombiner, TooManyRanges}
+use Rattle.tariff_file.proofs.Read.{five-or-six}
 use Rattle.tariff_file.specs.declared.Task.{Task}
 use Rattle.tariff_file.specs.declared.Task.the-variants.{Pair, Join, Select}
 use Rattle.tariff_file.proofs.Columns.{kind-of}
@@ -140,3 +147,47 @@ module _ {b b' : List ℕ} {h h' : Head} {ls ls' : List (Tariff ℤ)} (a : Accep
       let qs = map (pair-of (place-value h' (lend ls'))) (paired p' (instants .points) (tracks instants (lend ls'))) in
       (lines.text (map pair ps) ≡ lines.text (map pair qs)) ↔ (ps ≡ qs)
   same-pairs p p' m m' = pairs-tell _ _
+
+-- 4 and 8 are no codes of a file
+codes : (r : Refusal) → (file.code-of r ≢ 4) × (file.code-of r ≢ 8)
+codes TooLong = (λ e. omega arith, λ e. omega arith)
+codes (WrongMark at) = (λ e. omega arith, λ e. omega arith)
+codes (CutShort at) = (λ e. omega arith, λ e. omega arith)
+codes (LeftOver at) = (λ e. omega arith, λ e. omega arith)
+codes (UnknownOperation at) = (λ e. omega arith, λ e. omega arith)
+codes (TooManyLists at) = (λ e. omega arith, λ e. omega arith)
+codes (NotTwoLists at) = (λ e. omega arith, λ e. omega arith)
+codes (UnknownCombiner at) = (λ e. omega arith, λ e. omega arith)
+codes (TooManyRanges at) = (λ e. omega arith, λ e. omega arith)
+
+-- no refusal where the pieces are
+merged-no-refusal : (o c l d m : ℕ) (rs : List Row) → text.merged o c l rs ≡ text.refused d m → ⊥
+merged-no-refusal o c l d m rs e = let no : _≡_ {A = ℕ} 0 1 = cc in omega arith
+
+paired-no-refusal : (o c l d m : ℕ) (ps : List text.Pair) → text.paired o c l ps ≡ text.refused d m → ⊥
+paired-no-refusal o c l d m ps e = let no : _≡_ {A = ℕ} 0 1 = cc in omega arith
+
+module _ (b : List ℕ) (y : Bytes b) (c n : ℕ) where
+  -- a file that is accepted is joined, never refused by the join
+  pub accepted-joined : {h : Head} {ls : List (Tariff ℤ)} → Accepted b h ls → answered (read b) ≡ text.refused c n → ⊥
+  accepted-joined {h} {ls} a q = go (sound a .task) refl
+    where
+      answers : (t : Task) → sound a .task ≡ t → performed h t (lend ls) ≡ text.refused c n
+      answers t i = ap (λ t. performed h t (lend ls)) (sym i) ∙ sym (performs a) ∙ q
+
+      go : (t : Task) → sound a .task ≡ t → ⊥
+      go (Pair p) i = paired-no-refusal _ _ _ c n _ (sym (paired-answered h (lend ls) p (rw i at (judged a)) (rw i at (formed-lists a))) ∙ answers (Pair p) i)
+      go (Join d) i = merged-no-refusal _ _ _ c n _ (sym (merged-answered h (lend ls) (Joining d (h .combiner)) (rw i at (judged a)) (rw i at (formed-lists a))) ∙ answers (Join d) i)
+      go (Select p d) i = merged-no-refusal _ _ _ c n _ (sym (merged-answered h (lend ls) (Selecting p d) (rw i at (judged a)) (rw i at (formed-lists a))) ∙ answers (Select p d) i)
+
+  pub no-code-4-or-8 : answered (read b) ≡ text.refused c n → (c ≢ 4) × (c ≢ 8)
+  no-code-4-or-8 q = go (read b) refl q
+    where
+      code : (a : Answer) → ((i : ℕ) × ((a ≡ Backward i) ⊎ (a ≡ Overlap i))) → code-of a ≡ c → (c ≢ 4) × (c ≢ 8)
+      code a (i, inl e) h = let z = ap code-of e in (λ f. omega arith, λ f. omega arith)
+      code a (i, inr e) h = let z = ap code-of e in (λ f. omega arith, λ f. omega arith)
+
+      go : (r : Reading) → read b ≡ r → answered r ≡ text.refused c n → (c ≢ 4) × (c ≢ 8)
+      go (file.refused r) e q = let z : file.code-of r ≡ c = cc in (λ f. codes r .0 (z ∙ f), λ f. codes r .1 (z ∙ f))
+      go (ill-formed a) e q = let z : code-of a ≡ c = cc in code a (five-or-six b y a e) z
+      go (accepted h ls) e q = absurd (accepted-joined (record { bytes = y; reading = e }) (ap answered e ∙ q))

@@ -33,7 +33,7 @@ Ordered ls = AllWellFormed (instants .points) (tracks instants (lend ls))
 abbrev judgement : List (Tariff ℤ) → Judgement
 judgement ls = judge-lists (tracks instants (lend ls))
 
-ordered-sound : (ls : List (Tariff ℤ)) → Ordered ls → judgement ls ≡ SoundLists
+pub ordered-sound : (ls : List (Tariff ℤ)) → Ordered ls → judgement ls ≡ SoundLists
 ordered-sound ls = let c = lend ls in all-clear (keys instants (c .starts)) (keys instants (c .ends)) (instants .points) 0 (c .counts)
 
 -- an instant is a point
@@ -42,7 +42,7 @@ unfolding key64
 key-below (pos n) h = omega arith
 key-below (negsuc n) h = omega arith
 
-ends-below : (l : Tariff ℤ) → AllRanges l → (d : ℤ) (i : ℕ) → i < length (map (λ x. x .end) l) → key64 (getD (map (λ x. x .end) l) i d) < 2 ^ 64
+pub ends-below : (l : Tariff ℤ) → AllRanges l → (d : ℤ) (i : ℕ) → i < length (map (λ x. x .end) l) → key64 (getD (map (λ x. x .end) l) i d) < 2 ^ 64
 ends-below [] h d i w = omega arith
 ends-below (x ∷ l) h d zero w = key-below (x .end) (h .0 .1 .0)
 ends-below (x ∷ l) h d (suc i) w = ends-below l (h .1) d i (omega arith)
@@ -51,7 +51,7 @@ both-held : (l m : Tariff ℤ) → AllRanges l → AllRanges m → AllRanges (l 
 both-held [] m g h = h
 both-held (x ∷ l) m g h = (g .0, both-held l m (g .1) h)
 
-flat-held : (ls : List (Tariff ℤ)) → AllLists ls → AllRanges (flat ls)
+pub flat-held : (ls : List (Tariff ℤ)) → AllLists ls → AllRanges (flat ls)
 flat-held [] h = tt
 flat-held (l ∷ ls) h = both-held l (flat ls) (h .0) (flat-held ls (h .1))
 
