@@ -42,6 +42,11 @@ extern "C" {
 #define GUINEATWIRL_STACK_LISTING 2048
 #define GUINEATWIRL_STACK_TWO_WAY 1024
 #define GUINEATWIRL_STACK_MULTIWAY 4096
+#define GUINEATWIRL_STACK_FILE 262144 /* a tariff file, whose columns are on the stack */
+
+/* The longest tariff file, and the longest text that one gives. */
+#define GUINEATWIRL_MAX_FILE 45126
+#define GUINEATWIRL_MAX_TEXT 270286
 
 /* What a call answers. Where several are due, the first of 1, 2, 4, 3, 7, then the first range that is wrong (5 before 6), then 8. The
    number is 0 unless another is named. The place of a range is counted from 0 through all lists. */
@@ -55,6 +60,16 @@ enum guineatwirl_code {
     GUINEATWIRL_OVERLAP = 6,          /* number: the place of a range that starts no later than the end before it in its list */
     GUINEATWIRL_UNKNOWN_COMBINER = 7, /* of many-way joins only */
     GUINEATWIRL_NO_ROOM = 8           /* number: the pieces or events that need room */
+};
+
+/* What the text of a tariff file can say beside 1, 2, 3, 5, 6 and 7. The number is the offset of the record, or of the first byte left
+   over; so it is for 1, 2, 3 and 7 of a file. */
+enum guineatwirl_file_code {
+    GUINEATWIRL_FILE_TOO_LONG = 9, /* number: 45126 */
+    GUINEATWIRL_WRONG_MARK = 10,
+    GUINEATWIRL_CUT_SHORT = 11,
+    GUINEATWIRL_LEFT_OVER = 12,
+    GUINEATWIRL_UNKNOWN_OPERATION = 13
 };
 
 /* What a many-way join makes of the values of the lists present at a point; of no values each makes 0. */
@@ -90,6 +105,11 @@ static inline const char *guineatwirl_words(uint8_t code) {
     case GUINEATWIRL_OVERLAP: return "a range starts no later than the end before it";
     case GUINEATWIRL_UNKNOWN_COMBINER: return "no combiner has this number";
     case GUINEATWIRL_NO_ROOM: return "the output columns are too short";
+    case GUINEATWIRL_FILE_TOO_LONG: return "the file has more than 45126 bytes";
+    case GUINEATWIRL_WRONG_MARK: return "a record of the file does not begin with its mark";
+    case GUINEATWIRL_CUT_SHORT: return "the file ends within a record";
+    case GUINEATWIRL_LEFT_OVER: return "bytes are left over after the last record of the file";
+    case GUINEATWIRL_UNKNOWN_OPERATION: return "no operation has this number";
     default: return "no code of this library";
     }
 }
@@ -402,6 +422,13 @@ static inline uint8_t guineatwirl_instant_symmetric_difference(
         in->starts, in->ranges, in->ends, in->ranges, in->values, in->ranges, in->counts, in->lists,
         out->start, out->room, out->end, out->room, out->value, out->room, number);
 }
+
+/* -- the tariff file -- */
+
+/* Joins a tariff file, as docs/FILE.md of the library's repository describes it: any bytes in, the printed text at the front of the
+   buffer, and its length back. What is wrong with a file is said in the text. Where the text does not fit, 0 comes back and the buffer
+   is untouched; GUINEATWIRL_MAX_TEXT bytes are always enough. The two must not overlap; either may be NULL where its length is 0. */
+size_t guineatwirl_join_file(const uint8_t *file, size_t file_len, uint8_t *text, size_t text_len);
 
 #ifdef __cplusplus
 }
