@@ -1,14 +1,13 @@
--- Texts in a buffer: one after the other, one byte, a copy; at the front. Assumes nothing.
+-- Texts in a buffer: one after the other, one byte, a copy. Assumes nothing.
 use Prim.Native.Nat.{ℕ, _+_, _≤_, _<_}
 use mathlib.Core.Path.{_≡_, refl, sym, ap, _∙_}
 use mathlib.Core.List.{List, [], _∷_, _++_, append-assoc}
-use native.Mathlib.Nat.{add-assoc, add-zero, zero-add}
+use native.Mathlib.Nat.{add-assoc, add-zero}
 use native.Mathlib.Omega.{arith}
 use native.Mathlib.Numerals.{add-one}
 use lib.ListN.{length, take, drop, set, length-append, length-drop, length-set, take-append-drop}
 use lib.Seq.{length-take-le, take-at, drop-append-add, drop-drop, set-split, paste, take-length}
-use borrow.Author.Tests.{le-leb, lt-leb}
-use Rattle.answer_text.specs.Buffer.{over, Room, Put, leaves, print}
+use Rattle.answer_text.specs.Buffer.{over, Room, Put}
 
 module _ (at : ℕ) (s old : List ℕ) (h : at + length s ≤ length old) where
   head-long : length (take at old) ≡ at
@@ -83,32 +82,3 @@ put-two at b d old h =
 -- a copy
 pub put-copy : (at : ℕ) (s old : List ℕ) → Put at s old (paste old at s (length s)) (at + length s)
 put-copy at s old = record { after = refl; bytes = rw (take-length s, append-assoc) }
-
-abbrev pub joined : List (List ℕ) → List ℕ
-joined [] = []
-joined (s ∷ us) = s ++ joined us
-
--- t is written from a place on, and the parts us still have room after it
-pub record Going (at : ℕ) (t : List ℕ) (us : List (List ℕ)) (old mid : List ℕ) (r : ℕ) : Type 0 where
-  pub put : Put at t old mid r
-  pub room : Room at (t ++ joined us) old
-
-pub begin : (at : ℕ) (us : List (List ℕ)) (old : List ℕ) → Room at (joined us) old → Going at [] us old old at
-begin at us old h = record { put = put-none at old; room = h }
-
-module _ {at r : ℕ} {t s : List ℕ} {us : List (List ℕ)} {old mid : List ℕ} (g : Going at t (s ∷ us) old mid r) where
-  pub next-room : Room r s mid
-  next-room = room-left at r t s old mid (omega (arith, g .room, simp length-append at (g .room), length-append t s)) (g .put)
-
-  pub step : {q : ℕ} {new : List ℕ} → Put r s mid new q → Going at (t ++ s) us old new q
-  step p = record { put = puts (omega (arith, simp length-append at (g .room))) (g .put) p; room = rw append-assoc (g .room) }
-
--- a whole text from the first place on, and one that does not fit
-pub printed : (t old new : List ℕ) (r : ℕ) → length t ≤ length old → Put 0 t old new r → leaves r new ≡ print t old
-printed t old new r h p =
-    let e : r ≡ length t = omega (arith, p .after) in
-    let b : new ≡ t ++ drop (length t) old = p .bytes ∙ rw zero-add in
-    rw (le-leb (length t) (length old) h, e, b)
-
-pub unprinted : (t old : List ℕ) → length old < length t → leaves 0 old ≡ print t old
-unprinted t old h = rw (lt-leb (length t) (length old) h)

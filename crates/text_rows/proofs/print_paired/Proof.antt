@@ -1,0 +1,75 @@
+-- `print_paired` meets its contract: the header, then the rows. Assumes nothing.
+use Prim.Native.Nat.{ℕ, _-_}
+use mathlib.Core.Path.{_≡_, sym, _∙_}
+use mathlib.Core.Bool.{Bool, true, false}
+use mathlib.Core.List.{List}
+use native.Mathlib.Omega.{arith}
+use lib.Dec.{leb}
+use lib.IntN.{ℤ}
+use lib.ListN.{length}
+use borrow.Author.Needs.{needs}
+use Rattle.rules.specs.Paired.{Paired, output}
+use Rattle.answer_text.specs.Answers.{paired-text}
+use Rattle.text_rows.specs.Parts.{header-text, pairs-text}
+use Rattle.text_rows.proofs.Prints.{Halves, first-unfit, second-unfit, first-room, second-room, both-printed, paired-parts}
+use Rattle.text_rows.proofs.print_paired.Statement.{statement}
+use Rattle.text_rows.proofs.print_paired.Tie as tie
+
+abbrev P₀ : tie.Start → Paired ℤ
+P₀ s = output (s .args .start) (s .args .end) (s .args .left) (s .args .right) (s .args .presence)
+
+abbrev H : tie.Start → List ℕ
+H s = header-text (s .args .operation) (s .args .combiner) (s .args .lists) (s .args .n)
+
+abbrev R : tie.Start → List ℕ
+R s = pairs-text (P₀ s) (s .args .n)
+
+abbrev T : tie.Start → List ℕ
+T s = paired-text (s .args .operation) (s .args .combiner) (s .args .lists) (P₀ s) (s .args .n)
+
+abbrev S₀ : tie.After-header-width → tie.Start
+S₀ c = c .before .before .before
+
+-- the text's two parts
+halves : (c : tie.After-header-width) → let s = S₀ c in Halves (T s) (H s) (R s) (s .args .out .now) (c .header-width .result)
+halves c =
+    let a = S₀ c .args in
+    record { parts = paired-parts (a .operation) (a .combiner) (a .lists) (P₀ (S₀ c)) (a .n); first = c .header-width .ensures }
+
+-- whether the rows fit after the header
+abbrev Fit : tie.After-fit → Bool → Type 0
+Fit c t = let s = S₀ (c .before .before) in leb (length (R s)) (length (s .args .out .now) - c .before .before .header-width .result) ≡ t
+
+yes : (c : tie.Then2) → Fit (c .before) true
+yes c = sym (c .before .fit .ensures) ∙ c .if2 .taken
+
+no : (c : tie.Else2) → Fit (c .before) false
+no c = sym (c .before .fit .ensures) ∙ c .if2 .left
+
+pub print-paired-spec : {M : Type 1} → statement M
+print-paired-spec =
+    tie.close
+    (tie.spec
+    (λ c κs. search needs)
+    (λ c. let h : tie.After-header-width = search in first-unfit (halves h) (omega arith))
+    (λ c. search needs)
+    (λ c κs. search needs)
+    (λ c κs.
+    let h : tie.After-header-width = search in
+    let i : tie.Then2 = search in
+    first-room (halves h) (omega arith) (yes i))
+    (λ c κs.
+    let h : tie.After-header-width = search in
+    let i : tie.Then2 = search in
+    let p : tie.After-put-header = search in
+    (S₀ h .pre, second-room (halves h) (omega arith) (yes i) (p .put-header .ensures)))
+    (λ c. search needs)
+    (λ c.
+    let h : tie.After-header-width = search in
+    let i : tie.Then2 = search in
+    let p : tie.After-put-header = search in
+    let q : tie.After-put-rows = search in
+    both-printed (halves h) (omega arith) (yes i) (p .put-header .ensures) (q .put-rows .ensures))
+    (λ c.
+    let h : tie.After-header-width = search in
+    second-unfit (halves h) (omega arith) (no c)))
