@@ -20,7 +20,7 @@ ghost use Rattle.rules.specs.declared.Pairing.the-variants.{Inner, Left, Full};
 
 // The join that is asked for: what is refused, or all pieces, where there is room for them. Where the room may not do, a counting
 // pass tells how many there are.
-fn join_lists(
+pub fn join_lists(
     asked: Pairing,
     starts: &[Point],
     ends: &[Point],

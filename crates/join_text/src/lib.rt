@@ -1,8 +1,5 @@
-// A tariff file joined and printed: file bytes in, the text into a lent buffer, its length back.
+// Lists of a tariff file joined and printed: lent lists in, the text of the answer into a lent buffer, its length back.
 
-use file_reader::Contents;
-use file_reader::Head;
-use file_reader::read_file;
 use many_way_rules::Operation;
 use multiway_merge_instant::merge_lists;
 use rules::Answer;
@@ -10,8 +7,6 @@ use rules::Pairing;
 use rules::code;
 use rules::number;
 use tariff_file::Task;
-use tariff_file::refusal_code;
-use tariff_file::refusal_number;
 use text_rows::print_merged;
 use text_rows::print_paired;
 use text_rows::print_refusal;
@@ -20,7 +15,7 @@ ghost use mathlib.Core.Path.{_≡_};
 ghost use Rattle.rules.specs.Lists.{given};
 ghost use Rattle.answer_text.specs.Answers.{answer};
 ghost use Rattle.answer_text.specs.Buffer.{leaves, print};
-ghost use Rattle.printed.specs.Printed.{head, paired-answer, merged-answer, performed, printed};
+ghost use Rattle.printed.specs.Printed.{head, paired-answer, merged-answer, performed};
 
 // Joins two lists as asked, and prints the pieces or the refusal.
 fn join_pairs(
@@ -111,7 +106,7 @@ fn join_many(
 }
 
 // Does what a head asks for with the lists, and prints what comes of it.
-fn perform(
+pub fn perform(
     task: Task,
     operation: u8,
     combiner: u8,
@@ -162,31 +157,5 @@ fn perform(
                 text,
             )
         }
-    }
-}
-
-// Joins a tariff file, and puts the printed text at the front of the buffer. It answers the text's length; where the text does not
-// fit, it answers 0 and leaves the buffer as it was.
-pub fn join_file(file: &[u8], text: &mut [u8]) -> usize
-    ensures { λ r. ⌜ leaves r (now (text .exit)) ≡ print (printed (now (file .entry))) (now (text .entry)) ⌝ }
-{
-    let mut starts: [i64; 2048] = [0; 2048];
-    let mut ends: [i64; 2048] = [0; 2048];
-    let mut values: [i32; 2048] = [0; 2048];
-    let mut counts: [u32; 16] = [0; 16];
-    match read_file(file, &mut starts, &mut ends, &mut values, &mut counts) {
-        Contents::Refused(refusal) => {
-            print_refusal(refusal_code(refusal), refusal_number(refusal), text)
-        }
-        Contents::Held(head) => perform(
-            head.task,
-            head.operation,
-            head.combiner,
-            &starts[..head.ranges],
-            &ends[..head.ranges],
-            &values[..head.ranges],
-            &counts[..head.lists],
-            text,
-        ),
     }
 }
