@@ -2,10 +2,12 @@
 pub mod Number
 pub mod Sequence
 pub mod Record
+pub mod Stops
 pub mod File
 pub mod Places
 pub mod Steps
 pub mod Columns
 pub mod Read
 pub mod Longest
+pub mod Given
 pub mod Examples
