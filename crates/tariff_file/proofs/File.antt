@@ -44,21 +44,24 @@ pub flat-singles : {A : Type 0} (f : A → List ℕ) (l : List A) → flat (map 
 flat-singles f [] = refl
 flat-singles f (x ∷ l) = ap (λ (r : List (List ℕ)). f x ∷ r) (flat-singles f l)
 
+abbrev pub ranges-ok : Tariff ℤ → Type 0
+ranges-ok l = AllOk {S = Unit {0}} (λ s. read-range) (λ s x. s) range-single (λ s. Range) tt l
+
+pub ranges-held : (l : Tariff ℤ) → ranges-ok l → AllRanges l
+ranges-held [] h = tt
+ranges-held (x ∷ l) h = (h .0, ranges-held l (h .1))
+
+pub held-ranges : (l : Tariff ℤ) → AllRanges l → ranges-ok l
+held-ranges [] h = tt
+held-ranges (x ∷ l) h = (h .0, held-ranges l (h .1))
+
 pub ranges-format : (n : ℕ) → Format (read-ranges n) range-records (λ l. (length l ≡ n) × AllRanges l)
 unfolding read-ranges
 ranges-format n =
     reformat range-records (λ l. (length l ≡ n) × AllRanges l) (many-format {S = Unit {0}} (λ s. read-range) (λ s x. s) range-single (λ s. Range) (λ s. range-format) n tt)
     (flat-singles (λ x. record-bytes range-layout (range-held x)))
-    (λ l h. (h .0, to l (h .1)))
-    (λ l h. (h .0, from l (h .1)))
-  where
-    to : (l : Tariff ℤ) → AllOk {S = Unit {0}} (λ s. read-range) (λ s x. s) range-single (λ s. Range) tt l → AllRanges l
-    to [] h = tt
-    to (x ∷ l) h = (h .0, to l (h .1))
-
-    from : (l : Tariff ℤ) → AllRanges l → AllOk {S = Unit {0}} (λ s. read-range) (λ s x. s) range-single (λ s. Range) tt l
-    from [] h = tt
-    from (x ∷ l) h = (h .0, from l (h .1))
+    (λ l h. (h .0, ranges-held l (h .1)))
+    (λ l h. (h .0, held-ranges l (h .1)))
 
 -- a test that has to hold for no fault
 pub unless-none : (t : Bool) (r : ℕ → Refusal) (next : Fault) → unless t r next ≡ none → (t ≡ true) × (next ≡ none)
