@@ -105,8 +105,8 @@ module _ (b : List ℕ) where
 
   -- at a record that is awaited, by how it ends
   record-met : {l : Layout} {at : ℕ} {c : List ℕ} (w : Awaiting b l at c) (q : Refusal) → 0 < turn q
-      → (Unmarked l (fault b w) at c → (WrongMark at ≡ q) ⊎ (1 < turn q))
-      → (Short l (fault b w) at c → (Unmarked l (fault b w) at c → ⊥) → (CutShort at ≡ q) ⊎ (2 < turn q))
+      → (Unmarked l (fault b w) at c → (WrongMark at ≡ q) ⊎ (turn (WrongMark at) < turn q))
+      → (Short l (fault b w) at c → (Unmarked l (fault b w) at c → ⊥) → (CutShort at ≡ q) ⊎ (turn (CutShort at) < turn q))
       → ((Short l (fault b w) at c → ⊥) → (Unmarked l (fault b w) at c → ⊥) → Early (fault b w (said-by l c)) at q)
       → Met q
   record-met {l} {at} {c} w q some-turn mark cut value = go (ends l (fault b w) at c)
@@ -119,7 +119,7 @@ module _ (b : List ℕ) where
           finished q (g at) some-turn o (ap finish (comes b w (g at) (e ∙ ap (λ f. judged f at (got (said-by l c) m d)) f)))
 
   value-met : {l : Layout} {at : ℕ} {c : List ℕ} (w : Awaiting b l at c) (q : Refusal) → 2 < turn q → Early (fault b w (said-by l c)) at q → Met q
-  value-met w q h f = record-met w q (omega arith) (λ u. inr (omega arith)) (λ s u. inr h) (λ s u. f)
+  value-met w q h f = record-met w q (omega arith) (λ u. inr (omega arith)) (λ s u. inr (omega arith)) (λ s u. f)
 
   head-met : (at : ℕ) → at ≡ 0 → (o : Option Task) → task-of (operation b) ≡ o → (q : ℕ → Refusal) → 2 < turn (q 0) → Early (asked-of o (combiner b) (lists b)) 0 (q 0) → Met (q at)
   head-met at z o e q l f = subst (λ (k : ℕ). Met (q k)) (sym z) (value-met the-head (q 0) l (subst (λ o. Early (asked-of o (combiner b) (lists b)) 0 (q 0)) (sym e) f))
