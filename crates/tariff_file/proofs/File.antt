@@ -40,32 +40,35 @@ range-format =
     }
 
 -- the ranges of a list
-flat-singles : {A : Type 0} (f : A → List ℕ) (l : List A) → flat (map (λ x. f x ∷ []) l) ≡ map f l
+pub flat-singles : {A : Type 0} (f : A → List ℕ) (l : List A) → flat (map (λ x. f x ∷ []) l) ≡ map f l
 flat-singles f [] = refl
 flat-singles f (x ∷ l) = ap (λ (r : List (List ℕ)). f x ∷ r) (flat-singles f l)
+
+abbrev pub ranges-ok : Tariff ℤ → Type 0
+ranges-ok l = AllOk {S = Unit {0}} (λ s. read-range) (λ s x. s) range-single (λ s. Range) tt l
+
+pub ranges-held : (l : Tariff ℤ) → ranges-ok l → AllRanges l
+ranges-held [] h = tt
+ranges-held (x ∷ l) h = (h .0, ranges-held l (h .1))
+
+pub held-ranges : (l : Tariff ℤ) → AllRanges l → ranges-ok l
+held-ranges [] h = tt
+held-ranges (x ∷ l) h = (h .0, held-ranges l (h .1))
 
 pub ranges-format : (n : ℕ) → Format (read-ranges n) range-records (λ l. (length l ≡ n) × AllRanges l)
 unfolding read-ranges
 ranges-format n =
     reformat range-records (λ l. (length l ≡ n) × AllRanges l) (many-format {S = Unit {0}} (λ s. read-range) (λ s x. s) range-single (λ s. Range) (λ s. range-format) n tt)
     (flat-singles (λ x. record-bytes range-layout (range-held x)))
-    (λ l h. (h .0, to l (h .1)))
-    (λ l h. (h .0, from l (h .1)))
-  where
-    to : (l : Tariff ℤ) → AllOk {S = Unit {0}} (λ s. read-range) (λ s x. s) range-single (λ s. Range) tt l → AllRanges l
-    to [] h = tt
-    to (x ∷ l) h = (h .0, to l (h .1))
-
-    from : (l : Tariff ℤ) → AllRanges l → AllOk {S = Unit {0}} (λ s. read-range) (λ s x. s) range-single (λ s. Range) tt l
-    from [] h = tt
-    from (x ∷ l) h = (h .0, from l (h .1))
+    (λ l h. (h .0, ranges-held l (h .1)))
+    (λ l h. (h .0, held-ranges l (h .1)))
 
 -- a test that has to hold for no fault
-unless-none : (t : Bool) (r : ℕ → Refusal) (next : Fault) → unless t r next ≡ none → (t ≡ true) × (next ≡ none)
+pub unless-none : (t : Bool) (r : ℕ → Refusal) (next : Fault) → unless t r next ≡ none → (t ≡ true) × (next ≡ none)
 unless-none true r next e = (refl, e)
 unless-none false r next e = absurd (let no : _≡_ {A = ℕ} 0 1 = cc in omega arith)
 
-none-unless : (t : Bool) (r : ℕ → Refusal) (next : Fault) → t ≡ true → next ≡ none → unless t r next ≡ none
+pub none-unless : (t : Bool) (r : ℕ → Refusal) (next : Fault) → t ≡ true → next ≡ none → unless t r next ≡ none
 none-unless t r next e f = (λ i. unless (e i) r (f i))
 
 -- a list after so many ranges
@@ -93,14 +96,14 @@ list-format before =
     }
 
 -- the lists
-abbrev lists-ok : ℕ → List (Tariff ℤ) → Type 0
+abbrev pub lists-ok : ℕ → List (Tariff ℤ) → Type 0
 lists-ok before ls = AllOk read-list (λ before l. before + length l) list-records List-ok before ls
 
-lists-few : (before : ℕ) (ls : List (Tariff ℤ)) → before ≤ 2048 → lists-ok before ls → (before + total (map length ls) ≤ 2048) × AllLists ls
+pub lists-few : (before : ℕ) (ls : List (Tariff ℤ)) → before ≤ 2048 → lists-ok before ls → (before + total (map length ls) ≤ 2048) × AllLists ls
 lists-few before [] b h = (omega arith, tt)
 lists-few before (l ∷ ls) b h = let r = lists-few (before + length l) ls (h .0 .0) (h .1) in (omega arith, (h .0 .1, r .1))
 
-few-lists : (before : ℕ) (ls : List (Tariff ℤ)) → before + total (map length ls) ≤ 2048 → AllLists ls → lists-ok before ls
+pub few-lists : (before : ℕ) (ls : List (Tariff ℤ)) → before + total (map length ls) ≤ 2048 → AllLists ls → lists-ok before ls
 few-lists before [] b h = tt
 few-lists before (l ∷ ls) b h = ((omega arith, h .0), few-lists (before + length l) ls (omega arith) (h .1))
 
@@ -136,7 +139,7 @@ combiner-below (Join a) c e = go (ltb 0 c) (leb c 5) refl e
 combiner-below (Select p a) c e = omega (arith, eqb-true c 0 e)
 
 module _ (h : Head) (ls : List (Tariff ℤ)) where
-  sound-head : Sound h ls → Fine head-layout head-fault (head-held h (length ls))
+  pub sound-head : Sound h ls → Fine head-layout head-fault (head-held h (length ls))
   sound-head s =
       let k = s .task in
       let c = h .combiner in
@@ -145,7 +148,7 @@ module _ (h : Head) (ls : List (Tariff ℤ)) where
         ap (λ o. asked-of o c n) (s .operation-known) ∙ (λ i. unless (le-leb n 16 (s .few-lists) i) TooManyLists (unless (s .right-lists i) NotTwoLists (unless (s .right-combiner i) UnknownCombiner none))),
       )
 
-  head-sound : head-fault (head-held h (length ls)) ≡ none → total (map length ls) ≤ 2048 → AllLists ls → Sound h ls
+  pub head-sound : head-fault (head-held h (length ls)) ≡ none → total (map length ls) ≤ 2048 → AllLists ls → Sound h ls
   head-sound e few held = go (task-of (h .operation)) refl e
     where
       go : (o : Option Task) → task-of (h .operation) ≡ o → asked-of o (h .combiner) (length ls) ≡ none → Sound h ls

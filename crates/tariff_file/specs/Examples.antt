@@ -2,7 +2,7 @@
 use Prim.Native.Nat.{ℕ}
 use mathlib.Core.List.{List, [], _∷_, _++_}
 use lib.IntN.{ℤ, pos, negsuc}
-use lib.ListN.{take, set, replicate}
+use lib.ListN.{take, drop, set, replicate}
 use Rattle.many_way_rules.specs.Sheet.{Typed, Tariff}
 use Rattle.tariff_file.specs.File.{Head, Reading, refused, ill-formed, accepted, read}
 use Rattle.rules.specs.declared.Answer.the-variants.{Backward}
@@ -70,6 +70,7 @@ rows =
     -- 3 at the list that takes the total over, before its ranges
     ∷ row (set (set example 34 8) 35 0) (refused (TooManyRanges 32))
     ∷ row (set (set example 34 7) 35 255) (refused (CutShort 58))
+    ∷ row (lone 5 1 3 ++ (take 26 (drop 6 example) ++ (0x4A ∷ 0x4C ∷ 0 ∷ 0 ∷ 0x4A ∷ 0x4C ∷ 8 ∷ 0 ∷ []))) (refused (TooManyRanges 36))
     ∷ row (example ++ (0x4A ∷ [])) (refused (LeftOver 58))
     -- 5 and 6 after 12, by the flat index
     ∷ row (set example 41 10) (ill-formed (Backward 1))
