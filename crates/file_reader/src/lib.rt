@@ -164,3 +164,69 @@ fn read_list(
         }
     }
 }
+
+// So many lists, into the columns and their counts.
+fn read_lists(
+    file: &[u8],
+    from: usize,
+    n: usize,
+    starts: &mut [i64],
+    ends: &mut [i64],
+    values: &mut [i32],
+    counts: &mut [u32],
+) -> Filled
+    requires { ⌜ (from ≤ length (now file)) × (n ≤ length (now counts)) × (2048 ≤ room (output starts ends values)) ⌝ }
+    ensures { λ r.
+        let c = Lent n (before starts ends values) (after starts ends values) (now (counts .entry)) (now (counts .exit)) in
+        ⌜ Fills (read-lists n 0) (now (file .entry)) from c r ⌝ }
+{
+    let mut at = from;
+    let mut prior = 0;
+    let mut i = 0;
+    while i < n {
+        let found = read_list(file, at, prior, starts, ends, values);
+        let Filled::Past(past, count) = found else {
+            return found;
+        };
+        counts[i] = count as u32;
+        at = past;
+        prior += count;
+        i += 1;
+    }
+    Filled::Past(at, prior)
+}
+
+// A whole file: what it holds, its lists being in the columns, or why it is refused.
+pub fn read_file(
+    file: &[u8],
+    starts: &mut [i64; 2048],
+    ends: &mut [i64; 2048],
+    values: &mut [i32; 2048],
+    counts: &mut [u32; 16],
+) -> Contents
+    ensures { λ r. ⌜ Holds (now (file .entry)) r (lent (starts .exit) (ends .exit) (values .exit) (counts .exit)) ⌝ }
+{
+    if MAX_BYTES < file.len() {
+        return Contents::Refused(Refusal::TooLong);
+    }
+    match head_at(file) {
+        Opened::Refused(x) => Contents::Refused(x),
+        Opened::Head(task, operation, combiner, lists) => {
+            match read_lists(file, HEAD_SIZE, lists, starts, ends, values, counts) {
+                Filled::Stopped(x) => Contents::Refused(x),
+                Filled::Past(past, ranges) => {
+                    if past < file.len() {
+                        return Contents::Refused(Refusal::LeftOver(past));
+                    }
+                    Contents::Held(Head {
+                        task,
+                        operation,
+                        combiner,
+                        lists,
+                        ranges,
+                    })
+                }
+            }
+        }
+    }
+}
