@@ -2,7 +2,6 @@
 
 use many_way_rules::Operation;
 use multiway_merge_instant::merge_lists;
-use rules::Answer;
 use rules::Pairing;
 use rules::code;
 use rules::number;
@@ -47,9 +46,10 @@ fn join_pairs(
         &mut out_right,
         &mut out_presence,
     );
-    let Answer::Done(pieces) = answer else {
-        return print_refusal(code(answer), number(answer), text);
-    };
+    let found = code(answer);
+    if found != 0 {
+        return print_refusal(found, number(answer), text);
+    }
     print_paired(
         operation,
         combiner,
@@ -59,7 +59,7 @@ fn join_pairs(
         &out_left,
         &out_right,
         &out_presence,
-        pieces,
+        number(answer),
         text,
     )
 }
@@ -90,9 +90,10 @@ fn join_many(
         &mut out_end,
         &mut out_value,
     );
-    let Answer::Done(pieces) = answer else {
-        return print_refusal(code(answer), number(answer), text);
-    };
+    let found = code(answer);
+    if found != 0 {
+        return print_refusal(found, number(answer), text);
+    }
     print_merged(
         operation,
         combiner,
@@ -100,7 +101,7 @@ fn join_many(
         &out_start,
         &out_end,
         &out_value,
-        pieces,
+        number(answer),
         text,
     )
 }

@@ -1,0 +1,2 @@
+-- What an operation's answer says in print.
+pub mod Told
