@@ -17,11 +17,11 @@ use Rattle.tariff_file.specs.declared.Refusal.the-variants.{LeftOver}
 use Rattle.tariff_file.specs.declared.Task.{Task}
 use Rattle.tariff_file.proofs.File.{read-short}
 use Rattle.file_records.specs.Ends.{Got}
-use Rattle.file_reader.specs.Heads.{Headed, Opens}
-use Rattle.file_reader.specs.Fills.{Fills, Lent}
+use Rattle.file_head.specs.Heads.{Headed, Opens}
+use Rattle.file_reader.specs.Fills.{Fills, Gathered}
 use Rattle.file_reader.specs.Holds.{Lends}
-use Rattle.file_reader.specs.declared.Opened.{Opened}
-use Rattle.file_reader.specs.declared.Opened.the-variants.{Head, Refused}
+use Rattle.file_head.specs.declared.Opened.{Opened}
+use Rattle.file_head.specs.declared.Opened.the-variants.{Head, Refused}
 use Rattle.file_reader.specs.declared.Filled.{Filled}
 use Rattle.file_reader.specs.declared.Filled.the-variants.{Past, Stopped}
 
@@ -49,12 +49,12 @@ module _ (s : List ℕ) (short : length s ≤ 45126) (h : Opened) (opens : Opens
         ∙ ap (λ r. finish (follow r (λ v. read-lists (v .1 .1 .0) 0 then (λ ls. got (record { operation = v .0; combiner = v .1 .0 }, ls))))) (headed .read)
         ∙ ap (λ r. finish (follow r (λ ls. got (head, ls)))) q
 
-    module _ (b c′ : Merged ℤ) (d e′ : List ℕ) (r : Filled) (fills : Fills (read-lists n 0) s 6 (Lent n b c′ d e′) r) where
+    module _ (b c′ : Merged ℤ) (d e′ : List ℕ) (r : Filled) (fills : Fills (read-lists n 0) s 6 (Gathered n b c′ d e′) r) where
       pub file-stops : {x : Refusal} → r ≡ Stopped x → records-of s ≡ refused x
       file-stops {x} q = let f : read-lists n 0 6 (drop 6 s) ≡ stop x = rw q at fills in file-is (stop x) f
 
       module _ (past m : ℕ) (q : r ≡ Past past m) where
-        found : Got (read-lists n 0) s 6 (Lent n b c′ d e′ m) past
+        found : Got (read-lists n 0) s 6 (Gathered n b c′ d e′ m) past
         found = rw q at fills
 
         read : records-of s ≡ finish (got (head, found .value) past (drop past s))

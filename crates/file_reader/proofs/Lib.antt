@@ -1,4 +1,3 @@
--- Laws of heads, of lists in columns, and of whole files.
-pub mod Heads
+-- Laws of lists in columns, and of whole files.
 pub mod Lists
 pub mod Files

@@ -22,7 +22,7 @@ use Rattle.file_records.specs.Ends.{Got, Ends, There, Looked, Marked}
 use Rattle.file_records.specs.Columns.{Took}
 use Rattle.file_records.proofs.Columns.{laid-none, laid-one, laid-more, took-none, took-more}
 use Rattle.file_records.proofs.Turns.{Going, going-first, going-more, going-stops, going-last}
-use Rattle.file_reader.specs.Fills.{Fills, Counted, Lent}
+use Rattle.file_reader.specs.Fills.{Fills, Counted, Gathered}
 use Rattle.file_reader.specs.declared.Filled.{Filled}
 use Rattle.file_reader.specs.declared.Filled.the-variants.{Past as Filled-past, Stopped as Halted}
 
@@ -56,13 +56,13 @@ module _ (s : List ℕ) (at prior : ℕ) (r : Passed) (look : Marked s at 0x4C 4
         list-fine : read-list prior at (drop at s) ≡ read-ranges n past (drop past s)
         list-fine = list-is none (λ i. unless (le-leb (prior + n) 2048 few i) TooManyRanges none)
 
-        module _ (b c : Merged ℤ) (found : Passed) (end : Ends (read-ranges n) s past (λ l. (length l ≡ n) × Took prior l b c) found) where
+        module _ (b c : Merged ℤ) (found : Passed) (end : Ends (read-ranges n) s past (λ l. (length l ≡ n) × Took prior b c l) found) where
           pub list-halts : {x : Refusal} → found ≡ Stopped x → read-list prior at (drop at s) ≡ stop x
           list-halts {x} q = let h : read-ranges n past (drop past s) ≡ stop x = rw q at end in list-fine ∙ h
 
           pub list-got : {q : ℕ} → found ≡ Past q → Got (read-list prior) s at (Counted prior b c n) q
           list-got {q} z =
-              let h : Got (read-ranges n) s past (λ l. (length l ≡ n) × Took prior l b c) q = rw z at end in
+              let h : Got (read-ranges n) s past (λ l. (length l ≡ n) × Took prior b c l) q = rw z at end in
               record { value = h .value; within = h .within; read = list-fine ∙ h .read; put = record { long = h .put .0; few = few; took = h .put .1 } }
 
 flat-snoc : {A : Type 0} (ls : List (List A)) (l : List A) → flat (ls ++ (l ∷ [])) ≡ flat ls ++ l
@@ -77,7 +77,7 @@ module _ (file : List ℕ) (n from : ℕ) (b : Merged ℤ) (d : List ℕ) where
   pub record Filling (c : Merged ℤ) (e : List ℕ) (at prior i : ℕ) : Type 0 where
     pub done : List (Tariff ℤ)
     pub going : Going read-list so-far file n 0 from i done prior at
-    pub lent : Lent i b c d e prior done
+    pub gathered : Gathered i b c d e prior done
     pub long : Long (lengths c) (lengths b)
     pub counts-long : length e ≡ length d
 
@@ -86,7 +86,7 @@ module _ (file : List ℕ) (n from : ℕ) (b : Merged ℤ) (d : List ℕ) where
       record {
         done = [];
         going = going-first read-list so-far file n 0 from h;
-        lent = record { many = refl; long = refl; few = omega arith; took = took-none 0 b; counts = laid-none {R = Tariff ℤ} length 0 d };
+        gathered = record { many = refl; long = refl; few = omega arith; took = took-none 0 b; counts = laid-none {R = Tariff ℤ} length 0 d };
         long = (refl, (refl, (refl, tt)));
         counts-long = refl;
       }
@@ -113,19 +113,19 @@ module _ (file : List ℕ) (n from : ℕ) (b : Merged ℤ) (d : List ℕ) where
             record {
               done = g .done ++ (f .value ∷ []);
               going = subst (λ (k : ℕ). Going read-list so-far file n 0 from (i + 1) (g .done ++ (f .value ∷ [])) (prior + k) past) (f .put .long) (going-more read-list so-far file n 0 from (g .going) more (f .value) past (f .within) (f .read));
-              lent = record {
-                many = length-append (g .done) (f .value ∷ []) ∙ ap (λ (k : ℕ). k + 1) (g .lent .many);
-                long = ap length s ∙ length-append (flat (g .done)) (f .value) ∙ omega (arith, g .lent .long, f .put .long);
+              gathered = record {
+                many = length-append (g .done) (f .value ∷ []) ∙ ap (λ (k : ℕ). k + 1) (g .gathered .many);
+                long = ap length s ∙ length-append (flat (g .done)) (f .value) ∙ omega (arith, g .gathered .long, f .put .long);
                 few = f .put .few;
-                took = rw s (took-more 0 (flat (g .done)) (f .value) prior b c c′ (g .lent .long) (g .lent .took) (rw z (f .put .took)));
-                counts = laid-more length 0 (g .done) (f .value ∷ []) i d e (set e i m) (g .lent .many) (g .lent .counts) (rw w (laid-one length i (f .value) e m (omega (arith, g .counts-long)) (sym (f .put .long))));
+                took = rw s (took-more 0 (flat (g .done)) (f .value) prior b c c′ (g .gathered .long) (g .gathered .took) (rw z (f .put .took)));
+                counts = laid-more length 0 (g .done) (f .value ∷ []) i d e (set e i m) (g .gathered .many) (g .gathered .counts) (rw w (laid-one length i (f .value) e m (omega (arith, g .counts-long)) (sym (f .put .long))));
               };
               long = (l .0 ∙ g .long .0, (l .1 .0 ∙ g .long .1 .0, (l .1 .1 .0 ∙ g .long .1 .1 .0, tt)));
               counts-long = length-set e i m ∙ g .counts-long;
             }
 
-    pub filling-last : n ≤ i → Fills (read-lists n 0) file from (Lent n b c d e) (Filled-past at prior)
+    pub filling-last : n ≤ i → Fills (read-lists n 0) file from (Gathered n b c d e) (Filled-past at prior)
     unfolding read-lists
     filling-last h =
         let z : i ≡ n = omega (arith, g .going .few) in
-        record { value = g .done; within = g .going .within; read = going-last read-list so-far file n 0 from (g .going) h; put = rw z at (g .lent) }
+        record { value = g .done; within = g .going .within; read = going-last read-list so-far file n 0 from (g .going) h; put = rw z at (g .gathered) }

@@ -21,12 +21,12 @@ Fills p file at Put (Stopped x) = p at (drop at file) ≡ stop x
 pub record Counted (prior : ℕ) (b c : Merged ℤ) (n : ℕ) (l : Tariff ℤ) : Type 0 where
   pub long : length l ≡ n
   pub few : prior + n ≤ 2048
-  pub took : Took prior l b c
+  pub took : Took prior b c l
 
 -- lists of n ranges, which stand at the front of the columns with their counts
-pub record Lent (lists : ℕ) (b c : Merged ℤ) (d e : List ℕ) (n : ℕ) (ls : List (Tariff ℤ)) : Type 0 where
+pub record Gathered (lists : ℕ) (b c : Merged ℤ) (d e : List ℕ) (n : ℕ) (ls : List (Tariff ℤ)) : Type 0 where
   pub many : length ls ≡ lists
   pub long : length (flat ls) ≡ n
   pub few : n ≤ 2048
-  pub took : Took 0 (flat ls) b c
+  pub took : Took 0 b c (flat ls)
   pub counts : Laid length 0 ls d e

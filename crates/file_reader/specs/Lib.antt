@@ -1,4 +1,3 @@
--- What the contracts say of heads, of lists in columns, and of a file's contents.
-pub mod Heads
+-- What the contracts say of lists in columns, and of a file's contents.
 pub mod Fills
 pub mod Holds

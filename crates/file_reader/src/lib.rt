@@ -1,14 +1,12 @@
 // A tariff file, read into columns.
 
+use file_head::HEAD_SIZE;
+use file_head::Opened;
+use file_head::head_at;
 use file_records::number_at;
 use file_records::read_ranges;
 use file_records::record_at;
-use many_way_rules::Admission;
-use many_way_rules::Pick;
-use many_way_rules::known;
-use rules::MAX_LISTS;
 use rules::MAX_RANGES;
-use rules::Pairing;
 use tariff_file::Passed;
 use tariff_file::Refusal;
 use tariff_file::Task;
@@ -17,19 +15,14 @@ ghost use mathlib.Core.Path.{_≡_};
 ghost use lib.ListN.{length};
 ghost use Rattle.rules.specs.Lists.{lent};
 ghost use Rattle.rules.specs.Merged.{output, before, after, room};
-ghost use Rattle.tariff_file.specs.File.{lists-right, combiner-right, read-list, read-lists};
-ghost use Rattle.file_reader.specs.Heads.{Named, Judges, Opens};
-ghost use Rattle.file_reader.specs.Fills.{Fills, Counted, Lent};
+ghost use Rattle.tariff_file.specs.File.{read-list, read-lists};
+ghost use Rattle.file_reader.specs.Fills.{Fills, Counted, Gathered};
 ghost use Rattle.file_reader.specs.Holds.{Holds};
 
 // The most bytes of a file.
 const MAX_BYTES: usize = 45126;
 
-// The second byte of a head's mark and of a list's, and their bytes.
-const HEAD: u8 = 0x48;
-
-const HEAD_SIZE: usize = 6;
-
+// The second byte of a list's mark, and its bytes.
 const LIST: u8 = 0x4C;
 
 const LIST_SIZE: usize = 4;
@@ -49,93 +42,10 @@ pub enum Contents {
     Held(Head),
 }
 
-// What a head asks for, if it is not refused.
-pub enum Asked {
-    Known(Task),
-    Refused(Refusal),
-}
-
-// A head, with operation, combiner and how many lists follow, if it is not refused.
-pub enum Opened {
-    Head(Task, u8, u8, usize),
-    Refused(Refusal),
-}
-
 // How lists end: past the last byte, with so many ranges, or with a refusal.
 pub enum Filled {
     Past(usize, usize),
     Stopped(Refusal),
-}
-
-fn task_of(operation: u8) -> Asked
-    ensures { λ r. ⌜ Named operation r ⌝ }
-{
-    match operation {
-        1 => Asked::Known(Task::Pair(Pairing::Inner)),
-        2 => Asked::Known(Task::Pair(Pairing::Left)),
-        3 => Asked::Known(Task::Pair(Pairing::Full)),
-        4 => Asked::Known(Task::Join(Admission::Every)),
-        5 => Asked::Known(Task::Join(Admission::Any)),
-        6 => Asked::Known(Task::Select(Pick::Highest, Admission::Any)),
-        7 => Asked::Known(Task::Select(Pick::Highest, Admission::Odd)),
-        _ => Asked::Refused(Refusal::UnknownOperation(0)),
-    }
-}
-
-fn lists_right(task: Task, lists: usize) -> bool
-    ensures { λ r. ⌜ r ≡ lists-right task lists ⌝ }
-{
-    match task {
-        Task::Pair(_) => lists == 2,
-        Task::Join(_) => true,
-        Task::Select(_, _) => true,
-    }
-}
-
-fn combiner_right(task: Task, combiner: u8) -> bool
-    ensures { λ r. ⌜ r ≡ combiner-right task combiner ⌝ }
-{
-    match task {
-        Task::Pair(_) => combiner == 0,
-        Task::Join(_) => known(combiner),
-        Task::Select(_, _) => combiner == 0,
-    }
-}
-
-fn judge_head(operation: u8, combiner: u8, lists: usize) -> Asked
-    ensures { λ r. ⌜ Judges operation combiner lists r ⌝ }
-{
-    let found = task_of(operation);
-    let Asked::Known(task) = found else {
-        return found;
-    };
-    if MAX_LISTS < lists {
-        return Asked::Refused(Refusal::TooManyLists(0));
-    }
-    if !lists_right(task, lists) {
-        return Asked::Refused(Refusal::NotTwoLists(0));
-    }
-    if !combiner_right(task, combiner) {
-        return Asked::Refused(Refusal::UnknownCombiner(0));
-    }
-    found
-}
-
-fn head_at(file: &[u8]) -> Opened
-    ensures { λ r. ⌜ Opens (now (file .entry)) r ⌝ }
-{
-    match record_at(file, 0, HEAD, HEAD_SIZE) {
-        Passed::Stopped(x) => Opened::Refused(x),
-        Passed::Past(_) => {
-            let operation = file[2];
-            let combiner = file[3];
-            let lists = number_at(file, 4, 2) as usize;
-            match judge_head(operation, combiner, lists) {
-                Asked::Refused(x) => Opened::Refused(x),
-                Asked::Known(task) => Opened::Head(task, operation, combiner, lists),
-            }
-        }
-    }
 }
 
 // A list that comes after so many ranges, into the columns from there on.
@@ -177,7 +87,7 @@ fn read_lists(
 ) -> Filled
     requires { ⌜ (from ≤ length (now file)) × (n ≤ length (now counts)) × (2048 ≤ room (output starts ends values)) ⌝ }
     ensures { λ r.
-        let c = Lent n (before starts ends values) (after starts ends values) (now (counts .entry)) (now (counts .exit)) in
+        let c = Gathered n (before starts ends values) (after starts ends values) (now (counts .entry)) (now (counts .exit)) in
         ⌜ Fills (read-lists n 0) (now (file .entry)) from c r ⌝ }
 {
     let mut at = from;

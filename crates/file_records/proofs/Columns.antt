@@ -25,14 +25,14 @@ module _ {A R : Type 0} (f : R → A) (n : ℕ) where
       let m : n + i ≡ n + length xs = omega arith in
       ap (λ (k : ℕ). take k d) e ∙ h ∙ ap (λ (k : ℕ). take k c ++ map f ys) m ∙ ap (λ l. l ++ map f ys) g ∙ append-assoc (take n b) (map f xs) (map f ys) ∙ ap (λ l. take n b ++ l) (sym (map-append f xs ys))
 
-pub took-none : (n : ℕ) (b : Merged ℤ) → Took n [] b b
+pub took-none : (n : ℕ) (b : Merged ℤ) → Took n b b []
 took-none n b = record { starts = laid-none (λ (x : Typed ℤ ℤ). x .start) n (b .start); ends = laid-none (λ (x : Typed ℤ ℤ). x .end) n (b .end); values = laid-none (λ (x : Typed ℤ ℤ). x .value) n (b .value) }
 
 pub took-one : (n : ℕ) (r : Typed ℤ ℤ) (b : Merged ℤ) → n < room b → (x y z : ℤ) → x ≡ r .start → y ≡ r .end → z ≡ r .value →
-    Took n (r ∷ []) b (record { start = set (b .start) n x; end = set (b .end) n y; value = set (b .value) n z })
+    Took n b (record { start = set (b .start) n x; end = set (b .end) n y; value = set (b .value) n z }) (r ∷ [])
 took-one n r b h x y z p q o = record { starts = laid-one (λ x. x .start) n r (b .start) x (omega arith) p; ends = laid-one (λ x. x .end) n r (b .end) y (omega arith) q; values = laid-one (λ x. x .value) n r (b .value) z (omega arith) o }
 
-pub took-more : (n : ℕ) (l m : Tariff ℤ) (i : ℕ) (b c d : Merged ℤ) → length l ≡ i → Took n l b c → Took (n + i) m c d → Took n (l ++ m) b d
+pub took-more : (n : ℕ) (l m : Tariff ℤ) (i : ℕ) (b c d : Merged ℤ) → length l ≡ i → Took n b c l → Took (n + i) c d m → Took n b d (l ++ m)
 took-more n l m i b c d z g h =
     record {
       starts = laid-more (λ x. x .start) n l m i (b .start) (c .start) (d .start) z (g .starts) (h .starts);

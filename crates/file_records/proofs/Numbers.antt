@@ -10,7 +10,7 @@ use lib.IntN.{ℤ, pos, negsuc, _-ℤ_}
 use lib.Signed.{mag}
 use lib.ListN.{length, getD, take, drop}
 use borrow.Author.Tests.{lt-ltb, le-ltb}
-use mir.Syntax.{Width as Bits, w64}
+use mir.Syntax.{Width as Bits, w32, w64}
 use mir.Val.{SFits, hbits, ofZ, toZ}
 use mir.ValLaws.{toZ-ofZ, toZ-pos}
 use Rattle.tariff_file.specs.Layout.{number, half, integer}
@@ -24,8 +24,8 @@ byte-more i n b h l = rw (add-one i) (omega (arith, pow-suc 256 i))
 pub byte-fits : (i n b : ℕ) → i < 8 → n < 256 ^ i → b < 256 → n * 256 + b < 2 ^ 64
 byte-fits i n b s h l = omega (arith, byte-more i n b h l, pow-le-pow-right {n = 256} (omega arith) {i = i + 1} {j = 8} (omega arith))
 
-pub number-next : (s : List ℕ) (at i n : ℕ) → at + i < length s → n ≡ number (take i (drop at s)) → n * 256 + getD s (at + i) 0 ≡ number (take (i + 1) (drop at s))
-number-next s at i n h e = rw (add-one i) (omega (arith, number-more s at i h))
+pub number-next : (s : List ℕ) (at i n place : ℕ) → at + i < length s → place ≡ at + i → n ≡ number (take i (drop at s)) → n * 256 + getD s place 0 ≡ number (take (i + 1) (drop at s))
+number-next s at i n place h p e = rw (add-one i) (omega (arith, number-more s at i h, ap (λ (k : ℕ). getD s k 0) p))
 
 -- what the code counts down from -1
 below-zero : (m : ℕ) → negsuc 0 -ℤ pos m ≡ negsuc m
@@ -65,3 +65,12 @@ module _ (k n : ℕ) (some : 0 < k) (below : n < 256 ^ k) (z : ℤ) (e : z ≡ i
 
   pub field-back : toZ w (ofZ w z) ≡ integer k n
   field-back = toZ-ofZ w z field-fits ∙ e
+
+-- a price, which is an i64 on its way into an i32
+abbrev long : ℤ → ℤ
+long z = toZ w64 (ofZ w64 z)
+
+pub value-back : (n : ℕ) (z : ℤ) → n < 256 ^ 4 → z ≡ integer 4 n → SFits w32 (long z) × (toZ w32 (ofZ w32 (long z)) ≡ integer 4 n)
+value-back n z h e =
+    let b = field-back 4 n (omega arith) h z e w64 (omega arith) in
+    (field-fits 4 n (omega arith) h (long z) b w32 (omega arith), field-back 4 n (omega arith) h (long z) b w32 (omega arith))

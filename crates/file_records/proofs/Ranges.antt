@@ -53,7 +53,7 @@ module _ (s : List ℕ) (at : ℕ) where
 
       -- the range goes to place n
       pub range-put : (b : Merged ℤ) (n : ℕ) → n < room b → (x y z : ℤ) → x ≡ range-at .start → y ≡ range-at .end → z ≡ range-at .value →
-          Ends read-range s at (λ v. Took n (v ∷ []) b (record { start = set (b .start) n x; end = set (b .end) n y; value = set (b .value) n z })) r
+          Ends read-range s at (λ v. Took n b (record { start = set (b .start) n x; end = set (b .end) n y; value = set (b .value) n z }) (v ∷ [])) r
       range-put b n h x y z p q o =
           rw e
           (record {
@@ -68,16 +68,16 @@ module _ (file : List ℕ) (n at m : ℕ) (b : Merged ℤ) where
   pub record Reading (c : Merged ℤ) (past i : ℕ) : Type 0 where
     pub done : Tariff ℤ
     pub going : Going {S = Unit {0}} (λ u. read-range) (λ u x. u) file n tt at i done tt past
-    pub took : Took m done b c
+    pub took : Took m b c done
     pub long : Long (lengths c) (lengths b)
 
   pub reading-first : at ≤ length file → Reading b at 0
   reading-first h = record { done = []; going = going-first {S = Unit {0}} (λ u. read-range) (λ u x. u) file n tt at h; took = took-none m b; long = (refl, (refl, (refl, tt))) }
 
-  module _ (c : Merged ℤ) (past i : ℕ) (g : Reading c past i) (more : i < n) (d : Merged ℤ) (r : Passed) (end : Ends read-range file past (λ x. Took (m + i) (x ∷ []) c d) r) where
+  module _ (c : Merged ℤ) (past i : ℕ) (g : Reading c past i) (more : i < n) (d : Merged ℤ) (r : Passed) (end : Ends read-range file past (λ x. Took (m + i) c d (x ∷ [])) r) where
     pub reading-more : Long (lengths d) (lengths c) → (q : ℕ) → r ≡ Past q → Reading d q (i + 1)
     reading-more l q e =
-        let h : Got read-range file past (λ x. Took (m + i) (x ∷ []) c d) q = rw e at end in
+        let h : Got read-range file past (λ x. Took (m + i) c d (x ∷ [])) q = rw e at end in
         record {
           done = g .done ++ (h .value ∷ []);
           going = going-more {S = Unit {0}} (λ u. read-range) (λ u x. u) file n tt at (g .going) more (h .value) q (h .within) (h .read);
@@ -89,6 +89,6 @@ module _ (file : List ℕ) (n at m : ℕ) (b : Merged ℤ) where
     unfolding read-ranges
     reading-stops Put x e = let h : read-range past (drop past file) ≡ stop x = rw e at end in rw e (going-stops {S = Unit {0}} (λ u. read-range) (λ u x. u) file n tt at (g .going) more x h)
 
-  pub reading-last : (c : Merged ℤ) (past i : ℕ) → Reading c past i → n ≤ i → Ends (read-ranges n) file at (λ l. (length l ≡ n) × Took m l b c) (Past past)
+  pub reading-last : (c : Merged ℤ) (past i : ℕ) → Reading c past i → n ≤ i → Ends (read-ranges n) file at (λ l. (length l ≡ n) × Took m b c l) (Past past)
   unfolding read-ranges
   reading-last c past i g h = record { value = g .done; within = g .going .within; read = going-last {S = Unit {0}} (λ u. read-range) (λ u x. u) file n tt at (g .going) h; put = (omega (arith, g .going .long, g .going .few), g .took) }

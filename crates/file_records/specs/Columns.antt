@@ -11,8 +11,8 @@ use Rattle.many_way_rules.specs.Sheet.{Tariff}
 abbrev pub Laid : {A R : Type 0} → (R → A) → ℕ → List R → List A → List A → Type 0
 Laid f n xs b c = take (n + length xs) c ≡ take n b ++ map f xs
 
--- columns b took ranges, and are c
-pub record Took (n : ℕ) (l : Tariff ℤ) (b c : Merged ℤ) : Type 0 where
+-- columns b take ranges, and are c
+pub record Took (n : ℕ) (b c : Merged ℤ) (l : Tariff ℤ) : Type 0 where
   pub starts : Laid (λ x. x .start) n l (b .start) (c .start)
   pub ends : Laid (λ x. x .end) n l (b .end) (c .end)
   pub values : Laid (λ x. x .value) n l (b .value) (c .value)

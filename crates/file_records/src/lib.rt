@@ -25,6 +25,14 @@ const HALF_OF_EIGHT: u64 = 0x8000_0000_0000_0000;
 
 const HALF_OF_FOUR: u64 = 0x8000_0000;
 
+// The place of the i-th of k bytes: the first weighs most.
+fn place_of(at: usize, k: usize, i: usize) -> usize
+    requires { ⌜ (i < k) × (at + k < 2 ^ 64) ⌝ }
+    ensures { λ r. ⌜ r ≡ at + i ⌝ }
+{
+    at + i
+}
+
 // The number that k bytes write, big-endian.
 pub fn number_at(file: &[u8], at: usize, k: usize) -> u64
     requires { ⌜ (at + k ≤ length (now file)) × (k ≤ 8) ⌝ }
@@ -33,7 +41,8 @@ pub fn number_at(file: &[u8], at: usize, k: usize) -> u64
     let mut n: u64 = 0;
     let mut i = 0;
     while i < k {
-        n = n * 256 + file[at + i] as u64;
+        let place = place_of(at, k, i);
+        n = n * 256 + file[place] as u64;
         i += 1;
     }
     n
@@ -82,7 +91,9 @@ fn read_range(
     values: &mut [i32],
 ) -> Passed
     requires { ⌜ (at ≤ length (now file)) × (place < room (output starts ends values)) ⌝ }
-    ensures { λ r. ⌜ Ends read-range (now (file .entry)) at (λ x. Took place (x ∷ []) (before starts ends values) (after starts ends values)) r ⌝ }
+    ensures { λ r.
+        let took = Took place (before starts ends values) (after starts ends values) in
+        ⌜ Ends read-range (now (file .entry)) at (λ x. took (x ∷ [])) r ⌝ }
 {
     let found = record_at(file, at, RANGE, RANGE_SIZE);
     let Passed::Past(_) = found else {
@@ -105,7 +116,9 @@ pub fn read_ranges(
     values: &mut [i32],
 ) -> Passed
     requires { ⌜ (at ≤ length (now file)) × (place + n ≤ room (output starts ends values)) ⌝ }
-    ensures { λ r. ⌜ Ends (read-ranges n) (now (file .entry)) at (λ l. (length l ≡ n) × Took place l (before starts ends values) (after starts ends values)) r ⌝ }
+    ensures { λ r.
+        let took = Took place (before starts ends values) (after starts ends values) in
+        ⌜ Ends (read-ranges n) (now (file .entry)) at (λ l. (length l ≡ n) × took l) r ⌝ }
 {
     let mut past = at;
     let mut i = 0;

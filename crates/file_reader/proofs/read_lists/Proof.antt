@@ -46,7 +46,7 @@ read-lists-spec =
     Inv-loop
     μ-loop
     (λ c. let a : Start = search in filling-first _ _ _ _ _ (a .pre .0))
-    (λ c κs. let l : Loop = search in let a : Start = search in (l .loop .inv .going .within, l .loop .inv .lent .few, omega (arith, l .loop .inv .long, a .pre .2)))
+    (λ c κs. let l : Loop = search in let a : Start = search in (l .loop .inv .going .within, l .loop .inv .gathered .few, omega (arith, l .loop .inv .long, a .pre .2)))
     (λ c. search needs)
     (λ c. search needs)
     -- the columns are as long as they were

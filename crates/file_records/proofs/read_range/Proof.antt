@@ -1,14 +1,12 @@
 -- `file_records::read_range` meets its contract. Assumes nothing.
-use Prim.Native.Nat.{ℕ, _+_, _^_, _≤_, _<_}
-use mathlib.Core.Path.{_≡_, refl, ap, _∙_}
+use Prim.Native.Nat.{_+_, _≤_}
+use mathlib.Core.Path.{refl, ap, _∙_}
 use native.Mathlib.Omega.{arith}
 use borrow.Author.Needs.{needs}
 use lib.ListN.{length}
-use lib.IntN.{ℤ}
-use mir.Syntax.{w32, w64}
-use mir.Val.{SFits, ofZ, toZ}
+use mir.Syntax.{w64}
 use Rattle.tariff_file.specs.Layout.{integer}
-use Rattle.file_records.proofs.Numbers.{field-fits, field-back}
+use Rattle.file_records.proofs.Numbers.{field-back, value-back}
 use Rattle.file_records.proofs.Ranges.{range-stops, range-within, range-put}
 use Rattle.file_records.proofs.read_range.Statement.{statement}
 use Rattle.file_records.proofs.read_range.Tie as tie
@@ -16,13 +14,6 @@ use Rattle.file_records.proofs.read_range.Tie as tie
 -- the record is there
 within : (t : tie.After-enum-told) → t .before .before .before .before .args .at + 22 ≤ length (t .before .before .before .before .args .file .now)
 within t = let r = t .before .before in let a = r .before .before in range-within (a .args .file .now) (a .args .at) (r .record-at .result) (r .record-at .ensures) (t .enum-told .given .1)
-
--- a value as an i32
-abbrev price : ℤ → ℤ
-price z = toZ w64 (ofZ w64 z)
-
-value-back : (n : ℕ) (z : ℤ) → n < 256 ^ 4 → z ≡ integer 4 n → SFits w32 (price z) × (toZ w32 (ofZ w32 (price z)) ≡ integer 4 n)
-value-back n z h e = let b = field-back 4 n (omega arith) h z e w64 (omega arith) in (field-fits 4 n (omega arith) h (price z) b w32 (omega arith), field-back 4 n (omega arith) h (price z) b w32 (omega arith))
 
 pub read-range-spec : {M : Type 1} → statement M
 read-range-spec =

@@ -1,10 +1,10 @@
--- `file_reader::judge_head` meets its contract. Assumes nothing.
+-- `file_head::judge_head` meets its contract. Assumes nothing.
 use mathlib.Core.Path.{sym, _∙_}
 use borrow.Author.Needs.{needs}
 use borrow.Author.Tests.{not-true, not-false}
-use Rattle.file_reader.proofs.Heads.{head-unnamed, head-over, head-not-two, head-unknown, head-fine}
-use Rattle.file_reader.proofs.judge_head.Statement.{statement}
-use Rattle.file_reader.proofs.judge_head.Tie as tie
+use Rattle.file_head.proofs.Heads.{head-unnamed, head-over, head-not-two, head-unknown, head-fine}
+use Rattle.file_head.proofs.judge_head.Statement.{statement}
+use Rattle.file_head.proofs.judge_head.Tie as tie
 
 pub judge-head-spec : {M : Type 1} → statement M
 judge-head-spec =

@@ -1,7 +1,7 @@
--- `file_reader::lists_right` meets its contract. Assumes nothing.
+-- `file_head::lists_right` meets its contract. Assumes nothing.
 use borrow.Author.Needs.{needs}
-use Rattle.file_reader.proofs.lists_right.Statement.{statement}
-use Rattle.file_reader.proofs.lists_right.Tie as tie
+use Rattle.file_head.proofs.lists_right.Statement.{statement}
+use Rattle.file_head.proofs.lists_right.Tie as tie
 
 pub lists-right-spec : {M : Type 1} → statement M
 lists-right-spec =

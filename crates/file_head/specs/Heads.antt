@@ -9,10 +9,10 @@ use Rattle.tariff_file.specs.File.{head-layout, task-of, asked-of, head-fault}
 use Rattle.tariff_file.specs.declared.Refusal.{Refusal}
 use Rattle.tariff_file.specs.declared.Refusal.the-variants.{UnknownOperation}
 use Rattle.tariff_file.specs.declared.Task.{Task}
-use Rattle.file_reader.specs.declared.Asked.{Asked}
-use Rattle.file_reader.specs.declared.Asked.the-variants.{Known, Refused}
-use Rattle.file_reader.specs.declared.Opened.{Opened}
-use Rattle.file_reader.specs.declared.Opened.the-variants.{Head, Refused as RefusedHead}
+use Rattle.file_head.specs.declared.Asked.{Asked}
+use Rattle.file_head.specs.declared.Asked.the-variants.{Known, Refused}
+use Rattle.file_head.specs.declared.Opened.{Opened}
+use Rattle.file_head.specs.declared.Opened.the-variants.{Head, Refused as RefusedHead}
 
 -- an operation's number names what it does
 abbrev pub Named : ℕ → Asked → Type 0

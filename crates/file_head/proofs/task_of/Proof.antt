@@ -1,9 +1,9 @@
--- `file_reader::task_of` meets its contract. Assumes nothing.
+-- `file_head::task_of` meets its contract. Assumes nothing.
 use mathlib.Core.Path.{refl, ap}
 use Rattle.tariff_file.specs.File.{task-of}
-use Rattle.file_reader.proofs.Heads.{unnamed, beyond}
-use Rattle.file_reader.proofs.task_of.Statement.{statement}
-use Rattle.file_reader.proofs.task_of.Tie as tie
+use Rattle.file_head.proofs.Heads.{unnamed, beyond}
+use Rattle.file_head.proofs.task_of.Statement.{statement}
+use Rattle.file_head.proofs.task_of.Tie as tie
 
 pub task-of-spec : {M : Type 1} → statement M
 task-of-spec =

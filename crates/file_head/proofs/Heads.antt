@@ -19,9 +19,9 @@ use Rattle.tariff_file.specs.declared.Refusal.the-variants.{UnknownOperation, T
 use Rattle.tariff_file.specs.declared.Task.{Task}
 use Rattle.tariff_file.proofs.Places.{number-start, number-more}
 use Rattle.file_records.specs.Ends.{There, Looked, Marked}
-use Rattle.file_reader.specs.Heads.{Named, Judges, Headed, Opens}
-use Rattle.file_reader.specs.declared.Asked.{Asked}
-use Rattle.file_reader.specs.declared.Asked.the-variants.{Known, Refused}
+use Rattle.file_head.specs.Heads.{Named, Judges, Headed, Opens}
+use Rattle.file_head.specs.declared.Asked.{Asked}
+use Rattle.file_head.specs.declared.Asked.the-variants.{Known, Refused}
 
 past-none : {A : Type 0} (l : List A) (n : ℕ) → length l ≤ n → getElem? l n ≡ none
 past-none [] n h = refl

@@ -1,11 +1,11 @@
--- `file_reader::head_at` meets its contract. Assumes nothing.
+-- `file_head::head_at` meets its contract. Assumes nothing.
 use Prim.Native.Nat.{_≤_}
 use native.Mathlib.Omega.{arith}
 use borrow.Author.Needs.{needs}
 use lib.ListN.{length}
-use Rattle.file_reader.proofs.Heads.{head-stops, head-within, head-refused, head-opens}
-use Rattle.file_reader.proofs.head_at.Statement.{statement}
-use Rattle.file_reader.proofs.head_at.Tie as tie
+use Rattle.file_head.proofs.Heads.{head-stops, head-within, head-refused, head-opens}
+use Rattle.file_head.proofs.head_at.Statement.{statement}
+use Rattle.file_head.proofs.head_at.Tie as tie
 
 -- the record is there
 within : (t : tie.After-enum-told) → 6 ≤ length (t .before .before .before .before .args .file .now)

@@ -1,7 +1,7 @@
--- `file_reader::combiner_right` meets its contract. Assumes nothing.
+-- `file_head::combiner_right` meets its contract. Assumes nothing.
 use borrow.Author.Needs.{needs}
-use Rattle.file_reader.proofs.combiner_right.Statement.{statement}
-use Rattle.file_reader.proofs.combiner_right.Tie as tie
+use Rattle.file_head.proofs.combiner_right.Statement.{statement}
+use Rattle.file_head.proofs.combiner_right.Tie as tie
 
 pub combiner-right-spec : {M : Type 1} → statement M
 combiner-right-spec =

@@ -1,0 +1,2 @@
+-- Laws of heads.
+pub mod Heads

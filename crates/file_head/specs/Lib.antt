@@ -1,0 +1,2 @@
+-- What the contracts say of heads.
+pub mod Heads
