@@ -13,6 +13,7 @@ mod source;
 mod text;
 mod words;
 
+use std::ffi::OsString;
 use std::io::{self, Write};
 use std::process::ExitCode;
 
@@ -25,31 +26,33 @@ use crate::source::Source;
 /// Why nothing, or nothing more, is printed.
 #[derive(Debug)]
 enum Failure {
-    /// The file or the text is at fault; the sentence may have been said already.
+    /// The file or the text is at fault.
     Refused(String),
-    /// Something could not be read or written.
+    /// Something cannot be read or written.
     Broken(String),
+    /// The command line is not as the usage says.
+    Usage,
 }
 
 fn main() -> ExitCode {
-    let Some(call) = Call::given(std::env::args_os().skip(1)) else {
-        say(USAGE);
-        return ExitCode::from(2);
+    let arguments: Vec<_> = std::env::args_os().skip(1).collect();
+    let (said, status) = match answer(arguments) {
+        Ok(status) => return status,
+        Err(Failure::Refused(what)) => (format!("house: {what}\n"), 1),
+        Err(Failure::Broken(what)) => (format!("house: {what}\n"), 2),
+        Err(Failure::Usage) => (USAGE.to_owned(), 2),
     };
-    match answer(&call) {
-        Ok(status) => status,
-        Err(Failure::Refused(what)) => {
-            say(&format!("house: {what}\n"));
-            ExitCode::from(1)
-        }
-        Err(Failure::Broken(what)) => {
-            say(&format!("house: {what}\n"));
-            ExitCode::from(2)
-        }
-    }
+    // Where standard error cannot be written either, the status tells.
+    let _ = io::stderr().write_all(said.as_bytes());
+    ExitCode::from(status)
 }
 
-fn answer(call: &Call) -> Result<ExitCode, Failure> {
+fn answer(arguments: Vec<OsString>) -> Result<ExitCode, Failure> {
+    if arguments == ["--help"] {
+        print(USAGE.as_bytes())?;
+        return Ok(ExitCode::SUCCESS);
+    }
+    let call = Call::given(arguments).ok_or(Failure::Usage)?;
     let source = Source::read(&call.name)?;
     match call.command {
         Command::Pack => print(&source.packed()?)?,
@@ -76,9 +79,4 @@ fn print(what: &[u8]) -> Result<(), Failure> {
     let mut out = io::stdout().lock();
     let written = out.write_all(what).and_then(|()| out.flush());
     written.map_err(|error| Failure::Broken(format!("standard output cannot be written: {error}")))
-}
-
-/// Says it on standard error. Where that cannot be written either, the status tells.
-fn say(what: &str) {
-    let _ = io::stderr().write_all(what.as_bytes());
 }

@@ -134,7 +134,7 @@ impl<'a> Layout<'a> {
 
     fn draw_row(&self, svg: &mut Svg, panel: &Panel, row: &Row<'_>, y: f64) {
         let middle = y + row.height / 2.0;
-        svg.line((self.left, middle), (self.left + WIDTH, middle), GUIDE);
+        svg.line((self.left, middle), (self.left + panel.width(), middle), GUIDE);
         svg.noted(&row.lane.name, |svg| {
             svg.text((self.left - 8.0, middle), Anchor::End, INK, &short(&row.lane.name));
         });
@@ -147,7 +147,7 @@ impl<'a> Layout<'a> {
     }
 
     fn draw_line(&self, svg: &mut Svg, panel: &Panel, y: f64) {
-        svg.line((self.left, y + 2.0), (self.left + WIDTH, y + 2.0), INK);
+        svg.line((self.left, y + 2.0), (self.left + panel.width(), y + 2.0), INK);
         for (label, x) in labels(panel) {
             let x = self.left + x;
             if self.upright {

@@ -41,8 +41,10 @@ fn join(line: &Line<'_>) -> Result<(&'static Operation, Option<Combiner>), Fault
         return fault(word.place, what);
     };
     if !operation.combines {
-        line.ends_after(2)?;
-        return Ok((operation, None));
+        return match line.words.get(2) {
+            None => Ok((operation, None)),
+            Some(word) => fault(word.place, format!("{} takes no combiner", operation.name)),
+        };
     }
     let word = line.word(2, &format!("the combiner ({})", combiner_names()))?;
     let Some(combiner) = combiner_named(word.text) else {
@@ -105,8 +107,8 @@ impl Typed {
     }
 
     fn range(&mut self, first: Word<'_>, line: &Line<'_>) -> Result<(), Fault> {
-        if !first.text.starts_with(|digit: char| digit == '-' || digit.is_ascii_digit()) {
-            let what = format!("{} begins no line: list, or a range's start", first.quoted());
+        if !first.text.contains(|character: char| character.is_ascii_digit()) {
+            let what = format!("a line begins with list or a range, not with {}", first.quoted());
             return fault(first.place, what);
         }
         let start = first.whole(INSTANTS)?;

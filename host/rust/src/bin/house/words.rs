@@ -101,11 +101,16 @@ impl Word<'_> {
     pub fn whole<N: FromStr>(&self, kind: &str) -> Result<N, Fault> {
         let digits = self.text.strip_prefix('-').unwrap_or(self.text);
         if digits.is_empty() || !digits.bytes().all(|byte| byte.is_ascii_digit()) {
-            return fault(self.place, format!("{} is no whole number", self.quoted()));
+            let strange = self.text.chars().find(|character| !character.is_ascii());
+            let it_has =
+                strange.map(|character| format!(": it has U+{:04X}", u32::from(character)));
+            let what =
+                format!("{} is no whole number{}", self.quoted(), it_has.unwrap_or_default());
+            return fault(self.place, what);
         }
         match self.text.parse() {
             Ok(number) => Ok(number),
-            Err(_) => fault(self.place, format!("{} is too large: {kind}", self.quoted())),
+            Err(_) => fault(self.place, format!("{} does not fit: {kind}", self.quoted())),
         }
     }
 }

@@ -63,6 +63,10 @@ fn even(edges: &[i128], stretches: usize) -> Panel {
 }
 
 impl Panel {
+    pub fn width(&self) -> f64 {
+        self.edges.last().map_or(WIDTH, |edge| edge.1)
+    }
+
     /// What the panel shows of a lane.
     pub fn parts<'a>(&self, lane: &'a Lane) -> Vec<Part<'a>> {
         lane.bands.iter().filter_map(|band| self.part(band)).collect()
