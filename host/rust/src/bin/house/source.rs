@@ -8,7 +8,7 @@ use guineatwirl::join_file;
 
 use crate::house::House;
 use crate::refused::Refused;
-use crate::words::{Fault, Place, fault};
+use crate::words::{Fault, Position, fault};
 use crate::{Failure, bytes, picture, text};
 
 /// The most bytes that a text has.
@@ -107,5 +107,5 @@ fn read_text(bytes: &[u8]) -> Result<&str, Fault> {
         Ok(text) => return Ok(text),
         Err(error) => (error.valid_up_to(), "this is not UTF-8".to_owned()),
     };
-    fault(Place::after(&String::from_utf8_lossy(&bytes[..before])), what)
+    fault(Position::after(&String::from_utf8_lossy(&bytes[..before])), what)
 }

@@ -5,12 +5,12 @@ use core::str::FromStr;
 
 /// A line and a column, counted from 1 in characters.
 #[derive(Clone, Copy, Debug, PartialEq, Eq)]
-pub struct Place {
+pub struct Position {
     pub line: usize,
     pub column: usize,
 }
 
-impl Place {
+impl Position {
     /// The place after a text.
     pub fn after(text: &str) -> Self {
         let last = text.rsplit('\n').next().unwrap_or("");
@@ -21,32 +21,32 @@ impl Place {
 /// What is wrong with a text, and where.
 #[derive(Debug)]
 pub struct Fault {
-    pub place: Place,
+    pub position: Position,
     pub what: String,
 }
 
 impl Display for Fault {
     fn fmt(&self, out: &mut fmt::Formatter<'_>) -> fmt::Result {
-        write!(out, "line {}, column {}: {}", self.place.line, self.place.column, self.what)
+        write!(out, "line {}, column {}: {}", self.position.line, self.position.column, self.what)
     }
 }
 
 /// The fault at a place.
-pub fn fault<T>(place: Place, what: impl Into<String>) -> Result<T, Fault> {
-    Err(Fault { place, what: what.into() })
+pub fn fault<T>(position: Position, what: impl Into<String>) -> Result<T, Fault> {
+    Err(Fault { position, what: what.into() })
 }
 
 #[derive(Clone, Copy, Debug)]
 pub struct Word<'a> {
     pub text: &'a str,
-    pub place: Place,
+    pub position: Position,
 }
 
 /// The words of a line before its comment, and the place after them.
 #[derive(Debug)]
 pub struct Line<'a> {
     pub words: Vec<Word<'a>>,
-    pub end: Place,
+    pub end: Position,
 }
 
 /// The lines of a text.
@@ -57,12 +57,12 @@ pub fn lines(text: &str) -> impl Iterator<Item = Line<'_>> {
 fn words(line: &str, number: usize) -> Line<'_> {
     let said = line.split('#').next().unwrap_or("");
     let (mut words, mut column) = (Vec::new(), 1);
-    let mut end = Place { line: number, column };
+    let mut end = Position { line: number, column };
     for text in said.split([' ', '\t']) {
-        let place = Place { line: number, column };
+        let position = Position { line: number, column };
         column += text.chars().count();
         if !text.is_empty() {
-            words.push(Word { text, place });
+            words.push(Word { text, position });
             end.column = column;
         }
         column += 1;
@@ -82,7 +82,7 @@ impl<'a> Line<'a> {
     /// Nothing may follow the first so many words.
     pub fn ends_after(&self, count: usize) -> Result<(), Fault> {
         match self.words.get(count) {
-            Some(word) => fault(word.place, format!("{} is one word too many", word.quoted())),
+            Some(word) => fault(word.position, format!("{} is one word too many", word.quoted())),
             None => Ok(()),
         }
     }
@@ -106,11 +106,11 @@ impl Word<'_> {
                 strange.map(|character| format!(": it has U+{:04X}", u32::from(character)));
             let what =
                 format!("{} is no whole number{}", self.quoted(), it_has.unwrap_or_default());
-            return fault(self.place, what);
+            return fault(self.position, what);
         }
         match self.text.parse() {
             Ok(number) => Ok(number),
-            Err(_) => fault(self.place, format!("{} does not fit: {kind}", self.quoted())),
+            Err(_) => fault(self.position, format!("{} does not fit: {kind}", self.quoted())),
         }
     }
 }

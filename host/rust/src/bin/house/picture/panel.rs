@@ -7,7 +7,7 @@ use super::lane::{Band, Lane};
 /// The width of a panel, and the least and greatest that a stretch has whatever its length.
 pub const WIDTH: f64 = 1300.0;
 const LEAST: f64 = 13.0;
-const AMPLE: f64 = 60.0;
+const AMPLE: f64 = 84.0;
 
 /// A part of the line. The edges are where a band begins or has ended, with their distance from the
 /// panel's left; between two of them is a stretch, on which nothing changes.
