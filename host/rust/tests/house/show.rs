@@ -1,5 +1,7 @@
 //! Pictures: what they show, and that nothing lies over something else.
 
+use std::collections::HashMap;
+
 use crate::files::{House, Range, random, small};
 use crate::program::house;
 use crate::random::Random;
@@ -98,10 +100,14 @@ fn assert_clear(picture: &Picture) {
             }
         }
     }
+    let mut values = HashMap::<&str, Vec<&(Area, Element)>>::new();
+    for label in &picture.labels {
+        values.entry(&label.1.note).or_default().push(label);
+    }
     for (area, rect) in &picture.bands {
-        let own = |text: &&(Area, Element)| text.1.note == rect.note && text.0.within(area);
-        let text = picture.labels.iter().find(own).expect("a band has its value in it");
-        assert!(rect.note.ends_with(&format!(", {}", text.1.text)));
+        let value = values[rect.note.as_str()].iter().find(|label| label.0.within(area));
+        let (_, text) = value.expect("a band has its value in it");
+        assert!(rect.note.ends_with(&format!(", {}", text.text)));
         assert!(area.right - area.left >= LEAST - 0.1);
     }
 }

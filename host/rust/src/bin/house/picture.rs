@@ -188,7 +188,7 @@ fn lane_height(lane: &Lane, panels: &[Panel]) -> f64 {
     upright.map(|part| svg::width(&part.band.label()) + 6.0).fold(LANE, f64::max)
 }
 
-/// What stands on a panel's line, and where: the first instant of each stretch, and the last of all.
+/// What stands on a panel's line, and where: the first instant of each stretch, and the last one.
 fn labels(panel: &Panel) -> Vec<(String, f64)> {
     let mut labels: Vec<_> = panel.edges.iter().map(|(edge, x)| (edge.to_string(), *x)).collect();
     if let (Some(label), Some((edge, _))) = (labels.last_mut(), panel.edges.last()) {
