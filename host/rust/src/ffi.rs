@@ -2,7 +2,8 @@
 //! package.
 //!
 //! The declarations are those of `include/guineatwirl.h`. A column is passed as where it starts and
-//! its length; the answer's code comes back, and its number goes to the last argument.
+//! its length; the answer's code comes back, and its number goes to the last argument. A file and
+//! its text are passed likewise, and the text's length comes back.
 
 #![allow(unsafe_code)]
 
@@ -170,4 +171,21 @@ functions! {
     selections:
         multiway_union = guineatwirl_instant_multiway_union
         multiway_symmetric_difference = guineatwirl_instant_multiway_symmetric_difference
+}
+
+unsafe extern "C" {
+    fn guineatwirl_join_file(
+        file: *const u8,
+        file_len: usize,
+        text: *mut u8,
+        text_len: usize,
+    ) -> usize;
+}
+
+/// Writes the printed text of a file to the front of `text`, and answers its length, or 0 where it
+/// does not fit.
+pub fn join_file(file: &[u8], text: &mut [u8]) -> usize {
+    // Sound: each pointer goes with the length of the slice that it points into, and `text` is lent
+    // to this call alone. The C function reads and writes within the lengths, and keeps no pointer.
+    unsafe { guineatwirl_join_file(file.as_ptr(), file.len(), text.as_mut_ptr(), text.len()) }
 }

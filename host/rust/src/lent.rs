@@ -6,7 +6,8 @@
 //! made in one pass; with less, a pass goes before that counts the pieces.
 //!
 //! The functions of the same names at the root of the package take lists of tariffs and make a
-//! vector.
+//! vector. [`join_file_into`] writes the text of a tariff file to a buffer, and
+//! [`join_file`](crate::join_file) makes a string.
 //!
 //! ```
 //! use guineatwirl::{Combiner, LentLists, PieceColumns, Refusal, lent};
@@ -28,6 +29,8 @@
 //! assert_eq!(refused, Err(Refusal::NoRoom { needed: 3, room: 2 }));
 //! # Ok::<(), Refusal>(())
 //! ```
+
+pub use crate::file::join_file_into;
 
 use crate::ffi::Answer;
 use crate::{EventColumns, LentLists, PairColumns, PieceColumns, Point, Refusal};

@@ -23,6 +23,10 @@
 //! | [`multiway_symmetric_difference`] | in an odd number of lists | that of the last list there |
 //! | [`list_events`] | where a range starts or ends | that of the range |
 //!
+//! [`join_file`] does all of it for a tariff file of instants: bytes in, the printed text out. The
+//! program `house` of this package makes such files of lists that are typed as text, joins them and
+//! draws them.
+//!
 //! A list is well formed where no range starts beyond its end, and each starts beyond the end of
 //! the one before it. Ranges may touch. Lists and the ranges in them are counted from 0. No call
 //! panics: whatever is wrong with what is lent comes back as a [`Refusal`].
@@ -36,6 +40,7 @@
 mod columns;
 mod combiner;
 mod ffi;
+mod file;
 mod lists;
 mod pieces;
 mod point;
@@ -46,6 +51,7 @@ pub mod lent;
 
 pub use columns::{EventColumns, PairColumns, PieceColumns};
 pub use combiner::Combiner;
+pub use file::{MOST_FILE, MOST_TEXT, join_file};
 pub use lists::{LentLists, Lists, Tariff};
 pub use pieces::{Event, Pair, Piece};
 pub use point::Point;

@@ -1,0 +1,12 @@
+//! The program `house`, its text, and what docs/FILE.md says of both.
+
+mod commands;
+mod document;
+mod explained;
+mod files;
+mod program;
+mod random;
+mod round_trip;
+mod scanned;
+mod show;
+mod texts;
