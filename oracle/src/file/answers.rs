@@ -2,7 +2,7 @@
 
 use crate::call::Operation;
 use crate::file::damage::{at_records, damaged};
-use crate::file::heads::with_empty_lists;
+use crate::file::heads::with_lists;
 use crate::file::lengths::counts_over;
 use crate::file::sound::{EXAMPLE, longest, request, request_of_ranges, sheet, small_requests};
 use crate::file::writing::{OPERATIONS, numbers, written};
@@ -60,7 +60,7 @@ pub fn files() -> Vec<Vec<u8>> {
 fn heads() -> impl Iterator<Item = Vec<u8>> {
     (0..=8).chain([255]).flat_map(|operation| {
         [0, 1, 5, 6].into_iter().flat_map(move |combiner| {
-            [0, 2, 17].map(|lists| with_empty_lists(operation, combiner, lists))
+            [0, 2, 17].map(|lists| with_lists(operation, combiner, lists, 0))
         })
     })
 }

@@ -6,7 +6,7 @@ use crate::compare::{Plan, guarded};
 use crate::coverage::Coverage;
 use crate::file::case::{Case, Known};
 use crate::file::reading::Request;
-use crate::file::{answers, damage, heads, lengths, library, reading, sound, text};
+use crate::file::{answers, damage, faults, heads, lengths, library, reading, sound, text};
 
 /// Crowded files.
 const CROWDED: u64 = 300;
@@ -22,11 +22,12 @@ type Part = (&'static str, fn(Plan) -> Box<dyn Iterator<Item = Case>>);
 
 /// The parts. Half as many files as there are random cases are well formed, a quarter try every
 /// room, and a quarter are damaged.
-const PARTS: [Part; 15] = [
+const PARTS: [Part; 16] = [
     ("example and boundary sheet", |_| Box::new(sound::sheet().into_iter())),
     ("list of answers.bin", |_| Box::new(answers::files().into_iter().map(Case::of))),
     ("two bytes or fewer", |_| Box::new(heads::every_start())),
     ("heads", |_| Box::new(heads::every_head())),
+    ("every set of faults", |_| Box::new(faults::every_set())),
     ("cut short", |plan| Box::new(damage::truncations(plan.seed))),
     ("one byte changed", |plan| Box::new(damage::changed_bytes(plan.seed))),
     ("a lone byte at the end", |plan| Box::new(damage::lone_bytes(plan.seed))),

@@ -5,6 +5,7 @@ pub mod answers;
 pub mod case;
 pub mod compare;
 pub mod damage;
+pub mod faults;
 pub mod heads;
 pub mod lengths;
 pub mod library;
