@@ -12,10 +12,13 @@ use crate::file::{answers, damage, faults, heads, lengths, library, reading, sou
 const CROWDED: u64 = 300;
 
 /// What stands in a lent buffer before, and in what lies about it.
-const SENTINEL: u8 = 0xA5;
+const SENTINEL: u8 = b'~';
 
 /// So many bytes are watched on both sides of a lent buffer.
 const MARGIN: usize = 67;
+
+/// Every so many files go through the function to a string too.
+const STRINGS: usize = 16;
 
 /// A named part of the comparison.
 type Part = (&'static str, fn(Plan) -> Box<dyn Iterator<Item = Case>>);
@@ -106,23 +109,30 @@ fn check(number: usize, case: &Case) -> Result<Option<(u8, u8)>, String> {
     let mut due = String::new();
     guarded("crate", || text::print(&read, &mut due))?;
     check_known(&case.known, &read, &due)?;
-    let room = case.room.unwrap_or(due.len() + number % 3);
-    let fits = due.len() <= room;
-    let written = if fits { due.len() } else { 0 };
-    let mut buffer_due = vec![SENTINEL; MARGIN + room + MARGIN];
-    buffer_due[MARGIN..][..written].copy_from_slice(&due.as_bytes()[..written]);
-    let mut buffer = vec![SENTINEL; MARGIN + room + MARGIN];
-    let lent = &mut buffer[MARGIN..][..room];
-    let length = guarded("library", || library::print_into(&case.file, lent))?;
-    if length != written || buffer != buffer_due {
-        let shown = String::from_utf8_lossy(&library::text(&case.file)).into_owned();
-        let left = if buffer == buffer_due { "right" } else { "wrong" };
-        return Err(format!(
-            "due: {written} bytes into {room}\n{due}\nlibrary: {length} bytes, the buffer left {left}; \
-             with room enough\n{shown}\n"
-        ));
+    if number % STRINGS == 0 {
+        let found = guarded("library, to a string", || library::text(&case.file))?;
+        if found != due {
+            return Err(format!("due:\n{due}\nlibrary, to a string:\n{found}\n"));
+        }
     }
-    Ok(answered(&buffer[MARGIN..][..written]))
+    check_lent(&case.file, case.room.unwrap_or(due.len() + number % 3), &due)
+}
+
+/// Holds what the function leaves in a buffer with so much room, and about it, against the text.
+fn check_lent(file: &[u8], room: usize, due: &str) -> Result<Option<(u8, u8)>, String> {
+    let written = if due.len() <= room { due.len() } else { 0 };
+    let mut left_due = vec![SENTINEL; MARGIN + room + MARGIN];
+    left_due[MARGIN..][..written].copy_from_slice(&due.as_bytes()[..written]);
+    let mut left = vec![SENTINEL; MARGIN + room + MARGIN];
+    let lent = &mut left[MARGIN..][..room];
+    let length = guarded("library", || library::print_into(file, lent))?;
+    if length == written && left == left_due {
+        return Ok(answered(&left[MARGIN..][..written]));
+    }
+    let [left_due, left] = [&left_due, &left].map(|bytes| bytes.escape_ascii());
+    Err(format!(
+        "due: {written} of {room} bytes\n{left_due}\n\nlibrary: {length} of {room} bytes\n{left}\n"
+    ))
 }
 
 /// Holds what was read and is due against what is known.

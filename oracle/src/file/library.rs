@@ -21,9 +21,8 @@ pub fn print_into(file: &[u8], text: &mut [u8]) -> usize {
 }
 
 /// The text of a file.
-pub fn text(file: &[u8]) -> Vec<u8> {
+pub fn text(file: &[u8]) -> String {
     let mut text = vec![0; MOST_TEXT];
     let length = print_into(file, &mut text);
-    text.truncate(length);
-    text
+    String::from_utf8_lossy(&text[..length]).into_owned()
 }

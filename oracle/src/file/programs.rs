@@ -29,7 +29,7 @@ fn compare_on(file: &[u8], path: &Path, join_printer: &str, house: &str) -> Resu
     let due = library::text(file);
     let told = |error| format!("{}: {error}", path.display());
     fs::write(path, file).map_err(told)?;
-    let refused = i32::from(due.starts_with(b"refused"));
+    let refused = i32::from(due.starts_with("refused"));
     let printed = fed(join_printer, file).map_err(|error| format!("{join_printer}: {error}"))?;
     agree(join_printer, file, &due, 0, &printed)?;
     if could_be_text(file) {
@@ -57,22 +57,13 @@ fn fed(program: &str, file: &[u8]) -> io::Result<Output> {
     running.wait_with_output()
 }
 
-fn agree(
-    program: &str,
-    file: &[u8],
-    due: &[u8],
-    status: i32,
-    found: &Output,
-) -> Result<(), String> {
-    if found.status.code() == Some(status) && found.stdout == due {
+fn agree(program: &str, file: &[u8], due: &str, status: i32, found: &Output) -> Result<(), String> {
+    if found.status.code() == Some(status) && found.stdout == due.as_bytes() {
         return Ok(());
     }
     let file: String = file.iter().map(|byte| format!("{byte:02X}")).collect();
-    let text = |bytes| String::from_utf8_lossy(bytes).into_owned();
+    let (told, text) = (found.status, String::from_utf8_lossy(&found.stdout));
     Err(format!(
-        "a difference in {program}\n\nfile:\n{file}\n\ndue: status {status}\n{}\nfound: {}\n{}\n",
-        text(due),
-        found.status,
-        text(&found.stdout)
+        "a difference in {program}\n\nfile:\n{file}\n\ndue: exit status: {status}\n{due}\nfound: {told}\n{text}\n"
     ))
 }
