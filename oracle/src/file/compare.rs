@@ -43,7 +43,8 @@ const PARTS: [Part; 16] = [
         Box::new(cases.map(move |number| sound::well_formed(plan.seed, number)))
     }),
     ("crowded lists", |plan| {
-        Box::new((0..CROWDED).map(move |number| sound::crowded(plan.seed, number)))
+        let crowded = (0..CROWDED).map(move |number| sound::crowded(plan.seed, number));
+        Box::new([sound::sound(sound::longest_text())].into_iter().chain(crowded))
     }),
     ("every room", |plan| Box::new(sound::every_room(plan.seed, plan.random_cases.div_ceil(4)))),
     ("several damages", |plan| {

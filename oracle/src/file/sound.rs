@@ -122,3 +122,15 @@ pub fn longest(operation: Operation) -> Request {
     };
     Request { operation, lent: Lent::from_lists(&(0..MOST_LISTS).map(list).collect::<Vec<_>>()) }
 }
+
+/// The file of the longest text: as many pieces as there can be, in numbers as long as can be.
+pub fn longest_text() -> Request {
+    let list = |first: i64| {
+        let tariff = |place: i64| {
+            let start = i64::MIN + first + 4 * place;
+            Tariff { start, end: start + 2, value: i32::MIN }
+        };
+        (0..MOST_RANGES as i64 / 2).map(tariff).collect()
+    };
+    Request { operation: Operation::TwoWayFull, lent: Lent::from_lists(&[list(0), list(2)]) }
+}
