@@ -110,7 +110,7 @@ fn check(number: usize, case: &Case) -> Result<Option<(u8, u8)>, String> {
     let mut due = String::new();
     guarded("crate", || text::print(&read, &mut due))?;
     check_known(&case.known, &read, &due)?;
-    if number % STRINGS == 0 {
+    if number.is_multiple_of(STRINGS) {
         let found = guarded("library, to a string", || library::text(&case.file))?;
         if found != due {
             return Err(format!("due:\n{due}\nlibrary, to a string:\n{found}\n"));

@@ -1,10 +1,12 @@
 //! Damaged tariff files, with the refusal that is due where the damage tells it.
 
-use crate::call::Operation;
+use crate::call::{Answer, Operation};
 use crate::file::case::Case;
 use crate::file::reading::Request;
 use crate::file::sound::{longest, request, request_of_ranges, small_requests};
-use crate::file::writing::{OPERATIONS, Record, Topic, list, range, records, written};
+use crate::file::writing::{
+    OPERATIONS, Record, Topic, head, list, numbers, range, records, written,
+};
 use crate::generator::{SMALL, USUAL};
 use crate::random::Random;
 
@@ -86,11 +88,12 @@ pub fn at_records(request: Request) -> impl Iterator<Item = Case> {
     records.into_iter().flat_map(move |record| at_record(&request, &file, record))
 }
 
-/// What can be done to one record.
+/// What can be done to one record, whatever it is about, and to what it says.
 fn at_record(request: &Request, file: &[u8], record: Record) -> Vec<Case> {
-    let Record { offset, topic } = record;
+    let offset = record.offset;
     let (before, rest) = file.split_at(offset);
     let (own, after) = rest.split_at(record.length());
+    let (less, last) = own.split_at(own.len() - 1);
     let cut = |length: usize| Case::refused(file[..offset + length].to_vec(), 11, offset);
     let mut cases = vec![
         changed(file, offset, 1, Some(record)),
@@ -98,35 +101,45 @@ fn at_record(request: &Request, file: &[u8], record: Record) -> Vec<Case> {
         cut(0),
         cut(1),
         cut(2),
-        cut(own.len() - 1),
+        cut(less.len()),
         Case::of([before, after].concat()),
         Case::of([before, own, own, after].concat()),
-        Case::of([before, &own[..own.len() - 1], after].concat()),
-        Case::of([before, own, &own[own.len() - 1..], after].concat()),
+        Case::of([before, less, after].concat()),
+        Case::of([before, own, last, after].concat()),
     ];
     let replaced = |own: Vec<u8>| [before, &own, after].concat();
-    match topic {
+    cases.extend(miswritten(request, record).into_iter().map(|(own, known)| match known {
+        Some(Answer { code, number }) => Case::refused(replaced(own), code, number as usize),
+        None => Case::of(replaced(own)),
+    }));
+    cases
+}
+
+/// What a record can say that is wrong, with the refusal where it is known.
+fn miswritten(request: &Request, record: Record) -> Vec<(Vec<u8>, Option<Answer>)> {
+    let Request { operation, lent } = request;
+    match record.topic {
         Topic::Head => {
-            let lists = request.lent.counts.len() as u16;
-            let counted = |lists: u16| replaced([&own[..4], &lists.to_be_bytes()].concat());
-            cases.push(Case::of(counted(lists + 1)));
-            cases.push(Case::of(counted(lists.saturating_sub(1))));
+            let [number, combiner] = numbers(*operation);
+            let lists = lent.counts.len() as u16;
+            let counts = [lists + 1, lists.saturating_sub(1)];
+            counts.map(|lists| (head(number, combiner, lists), None)).to_vec()
         }
         Topic::List(ranges) => {
             let counts = [ranges + 1, ranges.saturating_sub(1), 0, 2048, 2049, 65_535];
-            cases.extend(counts.map(|count| Case::of(replaced(list(count)))));
+            counts.map(|count| (list(count), None)).to_vec()
         }
         Topic::Range(place, first) => {
-            let lent = &request.lent;
-            let backward = replaced(range(i64::MAX, i64::MIN, lent.values[place]));
-            cases.push(Case::refused(backward, 5, place));
+            let (end, value) = (lent.ends[place], lent.values[place]);
+            let backward = range(i64::MAX, i64::MIN, value);
+            let mut ranges = vec![(backward, Some(Answer::new(5, place)))];
             if !first {
-                let overlapping = range(lent.ends[place - 1], lent.ends[place], lent.values[place]);
-                cases.push(Case::refused(replaced(overlapping), 6, place));
+                let overlapping = range(lent.ends[place - 1], end, value);
+                ranges.push((overlapping, Some(Answer::new(6, place))));
             }
+            ranges
         }
     }
-    cases
 }
 
 /// A file with one byte changed, which is in the mark of a record or in none.

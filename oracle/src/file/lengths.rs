@@ -53,20 +53,17 @@ fn of_any_bytes() -> impl Iterator<Item = Case> {
     })
 }
 
-/// Lists of the most ranges with what is left of the greatest length left over, and a byte more;
-/// and a range more than allowed, where that does not make the file too long.
+/// A range more than allowed; and the most ranges with bytes left over up to the greatest length, and
+/// beyond it.
 fn of_crowded(random: &mut Random, operation: Operation) -> Vec<Case> {
     let file = written(&request_of_ranges(random, operation, MOST_RANGES as u64));
     let left = MOST_BYTES - file.len();
     let lengthened = |more: usize| [file.clone(), vec![0x4A; more]].concat();
-    let mut cases = vec![Case::refused(lengthened(left + 1), 9, MOST_BYTES)];
-    cases.extend(
-        [1, left]
-            .iter()
-            .filter(|&&more| more > 0 && more <= left)
-            .map(|&more| Case::refused(lengthened(more), 12, file.len())),
-    );
-    cases.push(Case::of(written(&request_of_ranges(random, operation, MOST_RANGES as u64 + 1))));
+    let one_more = written(&request_of_ranges(random, operation, MOST_RANGES as u64 + 1));
+    let mut cases = vec![Case::of(one_more), Case::refused(lengthened(left + 1), 9, MOST_BYTES)];
+    if left > 0 {
+        cases.extend([1, left].map(|more| Case::refused(lengthened(more), 12, file.len())));
+    }
     cases
 }
 

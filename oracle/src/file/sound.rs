@@ -61,7 +61,7 @@ pub fn request_of_ranges(random: &mut Random, operation: Operation, ranges: u64)
 }
 
 /// A request of a few ranges.
-pub fn small_request(random: &mut Random, operation: Operation) -> Request {
+fn small_request(random: &mut Random, operation: Operation) -> Request {
     loop {
         let request = request(random, operation, SMALL);
         if request.lent.starts.len() <= FEW {
@@ -70,7 +70,7 @@ pub fn small_request(random: &mut Random, operation: Operation) -> Request {
     }
 }
 
-/// The request without lists, and so many small ones of each operation.
+/// So many small requests of each operation, and one without lists.
 pub fn small_requests(seed: u64, of_each: usize) -> Vec<Request> {
     let of_none = Request { operation: Operation::Inner(1), lent: Lent::from_lists(&[]) };
     let small = |number: usize| {
@@ -95,24 +95,24 @@ pub fn crowded(seed: u64, number: u64) -> Case {
     sound(request_of_ranges(random, operation, ranges))
 }
 
-/// Small files with every room from none to a byte more than the text has, one room a case.
+/// Small files, some of them cut short, with every room from none to a byte more than the text has,
+/// one room a case.
 pub fn every_room(seed: u64, cases: u64) -> impl Iterator<Item = Case> {
     let with_rooms = move |base: u64| {
         let random = &mut Random::of_case(seed, "room of a file", base);
         let operation = random.pick(OPERATIONS);
-        let request = request(random, operation, SMALL);
-        let mut case = sound(request);
-        if base % 8 == 0 {
-            case = Case::of(case.file[..random.below(case.file.len() as u64) as usize].to_vec());
+        let mut file = written(&request(random, operation, SMALL));
+        if random.once_in(4) {
+            file.truncate(random.below(file.len() as u64) as usize);
         }
-        let most = text::due(&case.file).len() + 1;
-        (0..=most).map(move |room| Case { room: Some(room), ..case.clone() })
+        let most = text::due(&file).len() + 1;
+        (0..=most).map(move |room| Case { room: Some(room), ..Case::of(file.clone()) })
     };
     (0..).flat_map(with_rooms).take(cases as usize)
 }
 
-/// A file of exactly the greatest length: sixteen lists with as many ranges as are allowed, of one
-/// point each and touching, so that few pieces come of them.
+/// The request of a file of the greatest length: sixteen lists with as many ranges as are allowed,
+/// of one point each and touching, so that few pieces come of them.
 pub fn longest(operation: Operation) -> Request {
     let ranges = MOST_RANGES / MOST_LISTS;
     let list = |list: usize| {
@@ -123,7 +123,7 @@ pub fn longest(operation: Operation) -> Request {
     Request { operation, lent: Lent::from_lists(&(0..MOST_LISTS).map(list).collect::<Vec<_>>()) }
 }
 
-/// The file of the longest text: as many pieces as there can be, in numbers as long as can be.
+/// The request of the longest text: as many pieces as there can be, in numbers as long as can be.
 pub fn longest_text() -> Request {
     let list = |first: i64| {
         let tariff = |place: i64| {
