@@ -1,7 +1,7 @@
 //! Damaged tariff files, with the refusal that is due where the damage tells it.
 
 use crate::call::{Answer, Operation};
-use crate::file::case::Case;
+use crate::file::case::{Case, Known};
 use crate::file::reading::Request;
 use crate::file::sound::{longest, request, request_of_ranges, small_requests};
 use crate::file::writing::{
@@ -107,10 +107,9 @@ fn at_record(request: &Request, file: &[u8], record: Record) -> Vec<Case> {
         Case::of([before, less, after].concat()),
         Case::of([before, own, last, after].concat()),
     ];
-    let replaced = |own: Vec<u8>| [before, &own, after].concat();
-    cases.extend(miswritten(request, record).into_iter().map(|(own, known)| match known {
-        Some(Answer { code, number }) => Case::refused(replaced(own), code, number as usize),
-        None => Case::of(replaced(own)),
+    cases.extend(miswritten(request, record).into_iter().map(|(own, known)| {
+        let file = [before, &own, after].concat();
+        Case { known: known.map_or(Known::Nothing, Known::Refused), ..Case::of(file) }
     }));
     cases
 }
