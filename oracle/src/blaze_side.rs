@@ -31,11 +31,16 @@ pub fn outcome<T: Point>(call: &Call<T>) -> Outcome<T> {
     Outcome { answer: Answer::new(if fits { 0 } else { 8 }, count), columns }
 }
 
-/// The pieces that the crate's iterator yields. Over two lists the crate's two-list forms of the
-/// selections must say the same.
-pub fn pieces<T: Point>(operation: Operation, lent: &Lent<T>) -> Pieces<T> {
+/// The pieces that the crate's iterator yields.
+pub fn yielded<T: Point>(operation: Operation, lent: &Lent<T>) -> Pieces<T> {
     let mut pieces = Pieces::of(operation);
     run(operation, lists(lent), &mut pieces);
+    pieces
+}
+
+/// The same pieces. Over two lists the crate's two-list forms of the selections must say the same.
+pub fn pieces<T: Point>(operation: Operation, lent: &Lent<T>) -> Pieces<T> {
+    let pieces = yielded(operation, lent);
     if let Ok([left, right]) = <[_; 2]>::try_from(lists(lent)) {
         let of_two: Option<Vec<_>> = match operation {
             Operation::Union => Some(UnionMap::new2(left, right).map(selected).collect()),

@@ -1,5 +1,5 @@
 //! The comparison: every case through the reading, the proved library and, where the lists are well
-//! formed, the crate.
+//! formed, the crate; and every file through the two printers.
 
 use std::panic::{AssertUnwindSafe, catch_unwind};
 
@@ -8,7 +8,7 @@ use crate::case::{Case, Due};
 use crate::coverage::Coverage;
 use crate::rattle_side::{self, Proved};
 use crate::small_lists::{Universe, every_set};
-use crate::{answers, blaze_side, boundary, faults, generator, reading, text};
+use crate::{answers, blaze_side, boundary, faults, file, generator, reading, text};
 
 /// Sets of lists taken whole: pairs over short lines, triples over shorter ones. The largest go
 /// through a few operations only.
@@ -58,8 +58,8 @@ impl Default for Plan {
 /// A named part of the comparison.
 type Part<T> = (&'static str, Box<dyn Iterator<Item = Case<T>>>);
 
-/// Everything, both widths side by side. Tells how many cases there were, or the first difference,
-/// or a refusal that the library can give and never gave.
+/// Everything, both widths side by side, then the files. Tells how many cases there were, or the
+/// first difference, or a refusal that the library can give and never gave.
 pub fn run(plan: Plan) -> Result<u64, String> {
     let (seats, instants) = std::thread::scope(|scope| {
         let seats = scope.spawn(|| run_width::<u32>(plan));
@@ -68,7 +68,7 @@ pub fn run(plan: Plan) -> Result<u64, String> {
     });
     let cases = seats? + instants?;
     answers::compare_with_file()?;
-    Ok(cases)
+    Ok(cases + file::compare::run(plan)?)
 }
 
 fn run_width<T: Proved>(plan: Plan) -> Result<u64, String> {
@@ -84,7 +84,7 @@ fn run_width<T: Proved>(plan: Plan) -> Result<u64, String> {
                 let call = text::call_lines(&case.call);
                 format!("a difference in {at}\n\n{call}\n{difference}")
             })?;
-            proved.count(case.call.operation, code);
+            proved.count(case.call.operation.with_combiner(0), code);
             count += 1;
         }
         println!("{width} {name}: {count} cases, by the library {proved}");
@@ -161,6 +161,6 @@ fn agree<T: Point>(name: &str, due: &Outcome<T>, read: &Outcome<T>) -> Result<()
 }
 
 /// The result of a program, or that it panicked.
-fn guarded<R>(name: &str, program: impl FnOnce() -> R) -> Result<R, String> {
+pub fn guarded<R>(name: &str, program: impl FnOnce() -> R) -> Result<R, String> {
     catch_unwind(AssertUnwindSafe(program)).map_err(|_| format!("{name}:\npanicked\n"))
 }

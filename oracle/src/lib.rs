@@ -1,5 +1,5 @@
-//! The oracle of the joins: the crate's own iterators, an independent reading of the rules, the
-//! proved library, and the cases on which the three are held against each other.
+//! The oracle of the joins: the crate's own iterators, an independent reading of the rules and of
+//! the tariff file, the proved library, and the cases on which they are held against each other.
 
 extern crate alloc;
 
@@ -16,6 +16,7 @@ pub mod case;
 pub mod compare;
 pub mod coverage;
 pub mod faults;
+pub mod file;
 pub mod generator;
 pub mod random;
 pub mod rattle_side;

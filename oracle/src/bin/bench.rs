@@ -3,12 +3,15 @@
 //! most pieces that there can be, and with room for just the pieces that there are, where a join
 //! counts them first. The library is called over the lent columns of its Rust package, and one
 //! operation also without the package. The crate's iterators are drained into the same columns.
-//! What is printed is what docs/PERFORMANCE.md has: a summary, and the table.
+//! Tariff files go from bytes to text, beside the oracle's reader and printer around the crate.
+//! What is printed is what docs/PERFORMANCE.md has: a summary, and the two tables.
 
 use std::hint::black_box;
 use std::time::{Duration, Instant};
 
 use oracle::call::{Columns, Lent, MOST_RANGES, Operation, Tariff};
+use oracle::file::reading::{self, Request};
+use oracle::file::{library, text, writing};
 use oracle::random::Random;
 use oracle::{bare, blaze_side, rattle_side};
 
@@ -30,6 +33,16 @@ struct Row {
     counted: Option<f64>,
 }
 
+/// One row of the files: the best times, in nanoseconds for each range.
+struct FileRow {
+    title: &'static str,
+    lists: u64,
+    strewn: &'static str,
+    bytes: usize,
+    by_crate: f64,
+    by_library: f64,
+}
+
 fn main() {
     let two_way = [Operation::TwoWayInner, Operation::TwoWayLeft, Operation::TwoWayFull];
     let two_way = rows(&two_way, &[2], MOST_RANGES);
@@ -41,14 +54,24 @@ fn main() {
     }
     let selections = [Operation::Union, Operation::SymmetricDifference];
     let selections = rows(&selections, &[2, 4, 16], MOST_RANGES);
+    let files = file_rows();
     print!("{}", summary(&two_way, &listing, &joins, &selections));
-    println!("{}", packaging());
+    print!("{}", packaging());
+    println!("{}", file_summary(&files));
     println!(
         "| operation | lists | ranges | strewn | crate | library | counted | library / crate | counted / crate |"
     );
     println!("|---|---|---|---|---|---|---|---|---|");
     for row in two_way.iter().chain(&listing).chain(&joins).chain(&selections) {
         println!("{}", line(row));
+    }
+    println!();
+    println!(
+        "| file | lists | ranges | strewn | bytes of text | ordinary | library | library / ordinary |"
+    );
+    println!("|---|---|---|---|---|---|---|---|");
+    for row in &files {
+        println!("{}", file_line(row));
     }
 }
 
@@ -77,6 +100,39 @@ fn measured(operation: Operation, strewn: &'static str, lent: &Lent<i64>) -> Row
     Row { title: title(operation), lists, ranges, strewn, by_crate, by_library, counted }
 }
 
+/// Files of the most ranges, from bytes to text.
+fn file_rows() -> Vec<FileRow> {
+    let two_way = [Operation::TwoWayInner, Operation::TwoWayLeft, Operation::TwoWayFull];
+    let joins = [Operation::Inner(1), Operation::Full(1), Operation::Full(2)];
+    let selections = [Operation::Union, Operation::SymmetricDifference];
+    let mut rows = Vec::new();
+    for operation in two_way.into_iter().chain(joins).chain(selections) {
+        let list_counts: &[u64] = if operation.is_two_way() { &[2] } else { &[2, 16] };
+        for (strewn, gap, length) in STREWN {
+            for &count in list_counts {
+                let lent = lists(count, MOST_RANGES, gap, length);
+                rows.push(measured_file(strewn, &Request { operation, lent }));
+            }
+        }
+    }
+    rows
+}
+
+fn measured_file(strewn: &'static str, request: &Request) -> FileRow {
+    let file = writing::written(request);
+    let mut ordinary = String::with_capacity(library::MOST_TEXT);
+    let mut text = vec![0; library::MOST_TEXT];
+    let by_crate = best(MOST_RANGES, || {
+        ordinary.clear();
+        text::print(&reading::read(&file), &mut ordinary);
+    });
+    let by_library = best(MOST_RANGES, || library::print_into(&file, &mut text));
+    let bytes = library::print_into(&file, &mut text);
+    assert_eq!(&text[..bytes], ordinary.as_bytes(), "the two print the same");
+    let lists = request.lent.counts.len() as u64;
+    FileRow { title: title(request.operation), lists, strewn, bytes, by_crate, by_library }
+}
+
 fn title(operation: Operation) -> &'static str {
     match operation {
         Operation::TwoWayInner => "two-way inner",
@@ -103,6 +159,22 @@ fn line(row: &Row) -> String {
     format!(
         "| {title} | {lists} | {ranges} | {strewn} | {by_crate:.1} | {by_library:.1} | {} | {ratio:.2} | {} |",
         counted.0, counted.1
+    )
+}
+
+fn file_line(row: &FileRow) -> String {
+    let FileRow { title, lists, strewn, bytes, by_crate, by_library } = row;
+    let ratio = by_library / by_crate;
+    format!(
+        "| {title} | {lists} | {MOST_RANGES} | {strewn} | {bytes} | {by_crate:.1} | {by_library:.1} | {ratio:.2} |"
+    )
+}
+
+/// The ratios of the files.
+fn file_summary(rows: &[FileRow]) -> String {
+    let ratios = span(rows.iter().map(|row| row.by_library / row.by_crate));
+    format!(
+        "- Tariff files take {ratios} of the time of an ordinary reader and printer around the crate.\n"
     )
 }
 
