@@ -1,24 +1,19 @@
 -- Signed numbers that went through locals: their size, their text by the sign, and a side's text by its presence. Assumes nothing.
-use Prim.Native.Nat.{ℕ, suc, _+_, _-_, _<_, _≤_, _^_}
+use Prim.Native.Nat.{ℕ, suc, _+_, _-_, _<_, _^_}
 use mathlib.Core.Path.{_≡_, refl, sym, ap, _∙_}
 use mathlib.Core.Bool.{Bool, true, false}
-use mathlib.Core.List.{List, [], _∷_}
+use mathlib.Core.List.{[], _∷_}
 use native.Mathlib.Omega.{arith}
-use native.Mathlib.Nat.{pow-le-pow-right}
 use lib.Dec.{T}
 use lib.IntN.{ℤ, pos, negsuc, natAbs, _-ℤ_}
-use lib.ListN.{length, take}
 use lib.Signed.{ltZ, mag, nonNeg}
 use borrow.Author.Tests.{le-ltb, ltb-true}
 use mir.Syntax.{w32, w64}
 use mir.Val.{Fits, SFits, ofZ, toZ}
 use mir.ValLaws.{toZ-pos}
-use Rattle.io.specs.Counts.{Counts}
-use Rattle.io.specs.Digits.{digits, Fewest}
 use Rattle.integer.proofs.Laws.{back, wide}
 use Rattle.answer_text.specs.Numbers.{decimal, signed}
 use Rattle.answer_text.specs.Answers.{side, present}
-use Rattle.answer_text.proofs.Numbers.{by-test, digits-decimal}
 
 abbrev Unsigned : ℤ → Type 0
 Unsigned z = T (nonNeg z) × Fits w64 (natAbs z)
@@ -59,25 +54,6 @@ with-minus a n f e t = by-minus a (rw (back w64 a f) at t) ∙ ap (λ (k : ℕ).
 
 pub with-none : (a : ℤ) (n : ℕ) → mag a < 2 ^ 63 → n ≡ natAbs (toZ w64 (ofZ w64 a)) → ltZ (toZ w64 (ofZ w64 a)) (pos 0) ≡ false → signed a ≡ decimal n
 with-none a n f e t = by-none a (rw (back w64 a f) at t) ∙ ap decimal (sym (e ∙ ap natAbs (back w64 a f)))
-
--- twenty digits are enough
-few-digits : (n k : ℕ) → n < 2 ^ 64 → Fewest 10 1 n k → k ≤ 20
-few-digits n k h f =
-    by-test 20 k (k ≤ 20)
-    (λ l. absurd (omega (arith, f .2 (omega arith), pow-le-pow-right {n = 10} (omega arith) {i = 20} {j = k - 1} (omega arith))))
-    (λ l. l)
-
--- what io's digits say
-pub record Spelt (n k : ℕ) (l : List ℕ) : Type 0 where
-  pub few : k ≤ 20
-  pub within : k ≤ length l
-  pub bytes : take k l ≡ decimal n
-  pub long : k ≡ length (decimal n)
-
-pub spelt : (n k : ℕ) (l : List ℕ) → n < 2 ^ 64 → Counts k l × (Fewest 10 1 n k × (take k l ≡ digits 10 k n)) → Spelt n k l
-spelt n k l f h =
-    let b : take k l ≡ decimal n = h .1 .1 ∙ digits-decimal k n (h .1 .0) in
-    record { few = few-digits n k f (h .1 .0); within = h .0 .0; bytes = b; long = h .0 .1 ∙ ap length b }
 
 -- a side by its presence, of a value that was widened
 pub here : (b : Bool) (v : ℤ) → mag v < 2 ^ 31 → b ≡ true → side (present b v) ≡ signed (toZ w64 (ofZ w64 (toZ w32 (ofZ w32 v))))

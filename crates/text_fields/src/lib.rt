@@ -1,9 +1,10 @@
 // Numbers and fields of the text into a lent buffer: how many bytes each takes, and the bytes from a place on.
-ghost use Prim.Native.Nat.{_≤_};
+ghost use Prim.Native.Nat.{_≤_, _<_};
 ghost use mathlib.Core.Path.{_≡_};
 ghost use mathlib.Core.List.{[], _∷_, _++_};
 ghost use lib.IntN.{natAbs};
 ghost use lib.ListN.{length};
+ghost use Rattle.io.specs.Digits.{Fewest};
 ghost use Rattle.answer_text.specs.Numbers.{decimal, signed};
 ghost use Rattle.answer_text.specs.Answers.{side, present};
 ghost use Rattle.answer_text.specs.Buffer.{Room, Put};
@@ -16,11 +17,37 @@ fn size(z: i64) -> u64
 }
 
 // How many digits a natural number has.
+fn places(n: u64) -> usize
+    ensures { λ r. ⌜ Fewest 10 1 n r × (r ≤ 20) ⌝ }
+{
+    match n {
+        0..=9 => 1,
+        10..=99 => 2,
+        100..=999 => 3,
+        1_000..=9_999 => 4,
+        10_000..=99_999 => 5,
+        100_000..=999_999 => 6,
+        1_000_000..=9_999_999 => 7,
+        10_000_000..=99_999_999 => 8,
+        100_000_000..=999_999_999 => 9,
+        1_000_000_000..=9_999_999_999 => 10,
+        10_000_000_000..=99_999_999_999 => 11,
+        100_000_000_000..=999_999_999_999 => 12,
+        1_000_000_000_000..=9_999_999_999_999 => 13,
+        10_000_000_000_000..=99_999_999_999_999 => 14,
+        100_000_000_000_000..=999_999_999_999_999 => 15,
+        1_000_000_000_000_000..=9_999_999_999_999_999 => 16,
+        10_000_000_000_000_000..=99_999_999_999_999_999 => 17,
+        100_000_000_000_000_000..=999_999_999_999_999_999 => 18,
+        1_000_000_000_000_000_000..=9_999_999_999_999_999_999 => 19,
+        _ => 20,
+    }
+}
+
 pub fn digits_width(n: u64) -> usize
     ensures { λ r. ⌜ (r ≡ length (decimal n)) × (r ≤ 20) ⌝ }
 {
-    let mut digits: [u8; 20] = [0; 20];
-    io::decimal(n, &mut digits)
+    places(n)
 }
 
 // How many bytes a number takes.
@@ -55,9 +82,15 @@ fn put_digits(n: u64, place: usize, out: &mut [u8]) -> usize
     requires { ⌜ Room place (decimal n) (now out) ⌝ }
     ensures { λ r. ⌜ Put place (decimal n) (now (out .entry)) (now (out .exit)) r ⌝ }
 {
-    let mut digits: [u8; 20] = [0; 20];
-    let k = io::decimal(n, &mut digits);
-    put_word(&digits[..k], place, out)
+    let end = place + digits_width(n);
+    let mut rest = n;
+    let mut at = end;
+    while place < at {
+        at -= 1;
+        out[at] = b'0' + (rest % 10) as u8;
+        rest /= 10;
+    }
+    end
 }
 
 fn put_number(z: i64, place: usize, out: &mut [u8]) -> usize
