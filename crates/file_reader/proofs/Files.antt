@@ -15,7 +15,7 @@ use Rattle.tariff_file.specs.File.{head-layout, head-fault, read-lists, read-fi
 use Rattle.tariff_file.specs.declared.Refusal.{Refusal}
 use Rattle.tariff_file.specs.declared.Refusal.the-variants.{LeftOver}
 use Rattle.tariff_file.specs.declared.Task.{Task}
-use Rattle.tariff_file.proofs.File.{read-short}
+use Rattle.tariff_file.proofs.File.{records-short}
 use Rattle.file_records.specs.Ends.{Got}
 use Rattle.file_head.specs.Heads.{Headed, Opens}
 use Rattle.file_reader.specs.Fills.{Fills, Gathered}
@@ -30,7 +30,7 @@ module _ (s : List ℕ) (short : length s ≤ 45126) (h : Opened) (opens : Opens
   unfolding read-file
   file-unopened {x} e =
       let q : one head-layout head-fault 0 s ≡ stop x = rw e at opens in
-      read-short s short ∙ ap (λ r. finish (follow r (λ v. read-lists (v .1 .1 .0) 0 then (λ ls. got (record { operation = v .0; combiner = v .1 .0 }, ls))))) q
+      records-short s short ∙ ap (λ r. finish (follow r (λ v. read-lists (v .1 .1 .0) 0 then (λ ls. got (record { operation = v .0; combiner = v .1 .0 }, ls))))) q
 
   module _ (k : Task) (o c n : ℕ) (e : h ≡ Head k o c n) where
     headed : Headed s k o c n
@@ -45,7 +45,7 @@ module _ (s : List ℕ) (short : length s ≤ 45126) (h : Opened) (opens : Opens
     file-is : (r : Parsed (List (Tariff ℤ))) → read-lists n 0 6 (drop 6 s) ≡ r → records-of s ≡ finish (follow r (λ ls. got (head, ls)))
     unfolding read-file
     file-is r q =
-        read-short s short
+        records-short s short
         ∙ ap (λ r. finish (follow r (λ v. read-lists (v .1 .1 .0) 0 then (λ ls. got (record { operation = v .0; combiner = v .1 .0 }, ls))))) (headed .read)
         ∙ ap (λ r. finish (follow r (λ ls. got (head, ls)))) q
 

@@ -3,4 +3,5 @@ pub mod Accepted
 pub mod Firsts
 pub mod Answers
 pub mod Files
+pub mod Records
 pub mod Examples

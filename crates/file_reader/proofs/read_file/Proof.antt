@@ -1,7 +1,7 @@
 -- `file_reader::read_file` meets its contract. Assumes nothing.
 use native.Mathlib.Omega.{arith}
 use borrow.Author.Needs.{needs}
-use Rattle.tariff_file.proofs.File.{too-long}
+use Rattle.tariff_file.proofs.File.{records-long}
 use Rattle.file_reader.proofs.Files.{file-unopened, file-within, file-stops, file-over, file-held}
 use Rattle.file_reader.proofs.read_file.Statement.{statement}
 use Rattle.file_reader.proofs.read_file.Tie as tie
@@ -10,7 +10,7 @@ pub read-file-spec : {M : Type 1} → statement M
 read-file-spec =
     tie.close
     (tie.spec
-    (λ c. too-long _ (c .if1 .taken))
+    (λ c. records-long _ (c .if1 .taken))
     (λ c κs. search needs)
     (λ c. search needs)
     (λ c. search needs)
