@@ -21,19 +21,25 @@ pub fn join_file(file: &[u8], text: &mut [u8]) -> usize
     let mut ends: [i64; 2048] = [0; 2048];
     let mut values: [i32; 2048] = [0; 2048];
     let mut counts: [u32; 16] = [0; 16];
-    match read_file(file, &mut starts, &mut ends, &mut values, &mut counts) {
+    let contents = read_file(file, &mut starts, &mut ends, &mut values, &mut counts);
+    match contents {
         Contents::Refused(refusal) => {
             print_refusal(refusal_code(refusal), refusal_number(refusal), text)
         }
-        Contents::Held(head) => perform(
-            head.task,
-            head.operation,
-            head.combiner,
-            &starts[..head.ranges],
-            &ends[..head.ranges],
-            &values[..head.ranges],
-            &counts[..head.lists],
-            text,
-        ),
+        Contents::Held(head) => {
+            let task = head.task;
+            let ranges = head.ranges;
+            let lists = head.lists;
+            perform(
+                task,
+                head.operation,
+                head.combiner,
+                &starts[..ranges],
+                &ends[..ranges],
+                &values[..ranges],
+                &counts[..lists],
+                text,
+            )
+        }
     }
 }
