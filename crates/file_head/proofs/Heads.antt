@@ -1,8 +1,8 @@
 -- A head: what its operation does, its tests in turn, and its fields. Assumes nothing.
-use Prim.Native.Nat.{ℕ, zero, suc, _+_, _*_, _≤_, _<_}
+use Prim.Native.Nat.{ℕ, zero, suc, _+_, _≤_, _<_}
 use mathlib.Core.Path.{_≡_, refl, sym, ap, _∙_}
 use mathlib.Core.Bool.{Bool, true, false}
-use mathlib.Core.Option.{Option, none, some}
+use mathlib.Core.Option.{none, some}
 use mathlib.Core.List.{List, [], _∷_}
 use native.Mathlib.Omega.{arith}
 use lib.Dec.{leb}
@@ -10,7 +10,7 @@ use lib.ListN.{length, getD, getElem?, take, drop}
 use lib.Seq.{drop-drop}
 use borrow.Author.Tests.{le-leb, lt-leb}
 use Rattle.tariff_file.specs.Layout.{number, field-value, values, Held}
-use Rattle.tariff_file.specs.Reader.{Parsed, stop, got, Fault, judged, one}
+use Rattle.tariff_file.specs.Reader.{stop, got, judged, one}
 use Rattle.tariff_file.specs.File.{head-layout, operations, task-of, lists-right, combiner-right, unless, asked-of, head-fault}
 use Rattle.tariff_file.specs.declared.Passed.{Passed}
 use Rattle.tariff_file.specs.declared.Passed.the-variants.{Past, Stopped}
@@ -19,7 +19,7 @@ use Rattle.tariff_file.specs.declared.Refusal.the-variants.{UnknownOperation, T
 use Rattle.tariff_file.specs.declared.Task.{Task}
 use Rattle.tariff_file.proofs.Places.{number-start, number-more}
 use Rattle.file_records.specs.Ends.{There, Looked, Marked}
-use Rattle.file_head.specs.Heads.{Named, Judges, Headed, Opens}
+use Rattle.file_head.specs.Heads.{Named, Judges, Headed}
 use Rattle.file_head.specs.declared.Asked.{Asked}
 use Rattle.file_head.specs.declared.Asked.the-variants.{Known, Refused}
 
@@ -37,7 +37,13 @@ unnamed (suc n) h = past-none operations n (omega (arith, h (omega arith)))
 pub beyond : (k o : ℕ) → (o ≡ k → ⊥) → k ≤ o → suc k ≤ o
 beyond k o n h = omega arith
 
--- the tests in turn
+-- the tests in turn, of a head whose operation does k
+pub record Tests (o c n : ℕ) (k : Task) : Type 0 where
+  pub over : 16 < n → Judges o c n (Refused (TooManyLists 0))
+  pub not-two : n ≤ 16 → lists-right k n ≡ false → Judges o c n (Refused (NotTwoLists 0))
+  pub unknown : n ≤ 16 → lists-right k n ≡ true → combiner-right k c ≡ false → Judges o c n (Refused (UnknownCombiner 0))
+  pub fine : n ≤ 16 → lists-right k n ≡ true → combiner-right k c ≡ true → Judges o c n (Known k)
+
 module _ (o c n : ℕ) (r : Asked) (named : Named o r) where
   pub head-unnamed : {x : Refusal} → r ≡ Refused x → Judges o c n r
   head-unnamed {x} e = let h : Named o (Refused x) = rw e at named in rw e (UnknownOperation, ap (λ t. asked-of t c n) (h .0), h .1)
@@ -49,19 +55,14 @@ module _ (o c n : ℕ) (r : Asked) (named : Named o r) where
     asked : (p q t : Bool) → leb n 16 ≡ p → lists-right k n ≡ q → combiner-right k c ≡ t → asked-of (task-of o) c n ≡ unless p TooManyLists (unless q NotTwoLists (unless t UnknownCombiner none))
     asked p q t f g h = ap (λ t. asked-of t c n) task-is ∙ (λ i. unless (f i) TooManyLists (unless (g i) NotTwoLists (unless (h i) UnknownCombiner none)))
 
-    pub head-over : 16 < n → Judges o c n (Refused (TooManyLists 0))
-    head-over h = (TooManyLists, asked false (lists-right k n) (combiner-right k c) (lt-leb n 16 h) refl refl, refl)
-
-    module _ (few : n ≤ 16) where
-      pub head-not-two : lists-right k n ≡ false → Judges o c n (Refused (NotTwoLists 0))
-      head-not-two h = (NotTwoLists, asked true false (combiner-right k c) (le-leb n 16 few) h refl, refl)
-
-      module _ (right : lists-right k n ≡ true) where
-        pub head-unknown : combiner-right k c ≡ false → Judges o c n (Refused (UnknownCombiner 0))
-        head-unknown h = (UnknownCombiner, asked true true false (le-leb n 16 few) right h, refl)
-
-        pub head-fine : combiner-right k c ≡ true → Judges o c n (Known k)
-        head-fine h = (task-is, asked true true true (le-leb n 16 few) right h, few)
+    pub head-tests : Tests o c n k
+    head-tests =
+        record {
+          over = λ h. (TooManyLists, asked false (lists-right k n) (combiner-right k c) (lt-leb n 16 h) refl refl, refl);
+          not-two = λ few h. (NotTwoLists, asked true false (combiner-right k c) (le-leb n 16 few) h refl, refl);
+          unknown = λ few two h. (UnknownCombiner, asked true true false (le-leb n 16 few) two h, refl);
+          fine = λ few two h. (task-is, asked true true true (le-leb n 16 few) two h, few);
+        }
 
 -- the fields of a head that is there
 module _ (s : List ℕ) (r : Passed) (look : Marked s 0 0x48 6 r) where

@@ -1,15 +1,15 @@
 -- A whole file, from its head and its lists. Assumes nothing.
 use Prim.Native.Nat.{ℕ, _+_, _≤_, _<_}
-use mathlib.Core.Path.{_≡_, ap, sym, _∙_}
-use mathlib.Core.List.{List, []}
+use mathlib.Core.Path.{_≡_, ap, _∙_}
+use mathlib.Core.List.{List}
 use native.Mathlib.Omega.{arith}
 use lib.IntN.{ℤ}
 use lib.ListN.{length, take, drop, drop-of-length-le}
 use lib.Seq.{drop-cons}
-use Rattle.rules.specs.Lists as lists
 use Rattle.rules.specs.Merged.{Merged}
-use Rattle.many_way_rules.specs.Sheet.{Tariff, flat, lend}
-use Rattle.tariff_file.specs.Reader.{Parsed, stop, got, follow, _then_, one}
+use Rattle.many_way_rules.specs.Sheet.{Tariff, flat}
+use Rattle.tariff_file.specs.Layout.{Held}
+use Rattle.tariff_file.specs.Reader.{Parsed, stop, got, Reader, follow, _then_, one}
 use Rattle.tariff_file.specs.File as files
 use Rattle.tariff_file.specs.File.{head-layout, head-fault, read-lists, read-file, refused, finish, records-of}
 use Rattle.tariff_file.specs.declared.Refusal.{Refusal}
@@ -25,12 +25,16 @@ use Rattle.file_head.specs.declared.Opened.the-variants.{Head, Refused}
 use Rattle.file_reader.specs.declared.Filled.{Filled}
 use Rattle.file_reader.specs.declared.Filled.the-variants.{Past, Stopped}
 
+-- what follows a head
+abbrev rest : Held head-layout → Reader files.File
+rest v = read-lists (v .1 .1 .0) 0 then (λ ls. got (record { operation = v .0; combiner = v .1 .0 }, ls))
+
 module _ (s : List ℕ) (short : length s ≤ 45126) (h : Opened) (opens : Opens s h) where
   pub file-unopened : {x : Refusal} → h ≡ Refused x → records-of s ≡ refused x
   unfolding read-file
   file-unopened {x} e =
       let q : one head-layout head-fault 0 s ≡ stop x = rw e at opens in
-      records-short s short ∙ ap (λ r. finish (follow r (λ v. read-lists (v .1 .1 .0) 0 then (λ ls. got (record { operation = v .0; combiner = v .1 .0 }, ls))))) q
+      records-short s short ∙ ap (λ r. finish (follow r rest)) q
 
   module _ (k : Task) (o c n : ℕ) (e : h ≡ Head k o c n) where
     headed : Headed s k o c n
@@ -46,7 +50,7 @@ module _ (s : List ℕ) (short : length s ≤ 45126) (h : Opened) (opens : Opens
     unfolding read-file
     file-is r q =
         records-short s short
-        ∙ ap (λ r. finish (follow r (λ v. read-lists (v .1 .1 .0) 0 then (λ ls. got (record { operation = v .0; combiner = v .1 .0 }, ls))))) (headed .read)
+        ∙ ap (λ r. finish (follow r rest)) (headed .read)
         ∙ ap (λ r. finish (follow r (λ ls. got (head, ls)))) q
 
     module _ (b c′ : Merged ℤ) (d e′ : List ℕ) (r : Filled) (fills : Fills (read-lists n 0) s 6 (Gathered n b c′ d e′) r) where
@@ -74,6 +78,8 @@ module _ (s : List ℕ) (short : length s ≤ 45126) (h : Opened) (opens : Opens
               known = headed .known;
               few-lists = headed .few;
               few-ranges = p .few;
+              all-lists = p .many;
+              all-ranges = p .long;
               lent = λ i. record {
                 starts = (ap (λ (j : ℕ). take j (c′ .start)) w ∙ p .took .starts) i;
                 ends = (ap (λ (j : ℕ). take j (c′ .end)) w ∙ p .took .ends) i;

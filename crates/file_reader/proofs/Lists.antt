@@ -20,7 +20,7 @@ use Rattle.tariff_file.specs.declared.Refusal.{Refusal}
 use Rattle.tariff_file.specs.declared.Refusal.the-variants.{TooManyRanges}
 use Rattle.file_records.specs.Ends.{Got, Ends, There, Looked, Marked}
 use Rattle.file_records.specs.Columns.{Took}
-use Rattle.file_records.proofs.Columns.{laid-none, laid-one, laid-more, took-none, took-more}
+use Rattle.file_records.proofs.Columns.{laid-none, laid-one, laid-more, took-none, took-more, long-same, long-on}
 use Rattle.file_records.proofs.Turns.{Going, going-first, going-more, going-stops, going-last}
 use Rattle.file_reader.specs.Fills.{Fills, Counted, Gathered}
 use Rattle.file_reader.specs.declared.Filled.{Filled}
@@ -87,7 +87,7 @@ module _ (file : List ℕ) (n from : ℕ) (b : Merged ℤ) (d : List ℕ) where
         done = [];
         going = going-first read-list so-far file n 0 from h;
         gathered = record { many = refl; long = refl; few = omega arith; took = took-none 0 b; counts = laid-none {R = Tariff ℤ} length 0 d };
-        long = (refl, (refl, (refl, tt)));
+        long = long-same b;
         counts-long = refl;
       }
 
@@ -120,7 +120,7 @@ module _ (file : List ℕ) (n from : ℕ) (b : Merged ℤ) (d : List ℕ) where
                 took = rw s (took-more 0 (flat (g .done)) (f .value) prior b c c′ (g .gathered .long) (g .gathered .took) (rw z (f .put .took)));
                 counts = laid-more length 0 (g .done) (f .value ∷ []) i d e (set e i m) (g .gathered .many) (g .gathered .counts) (rw w (laid-one length i (f .value) e m (omega (arith, g .counts-long)) (sym (f .put .long))));
               };
-              long = (l .0 ∙ g .long .0, (l .1 .0 ∙ g .long .1 .0, (l .1 .1 .0 ∙ g .long .1 .1 .0, tt)));
+              long = long-on b c c′ l (g .long);
               counts-long = length-set e i m ∙ g .counts-long;
             }
 

@@ -8,7 +8,8 @@ use native.Mathlib.Numerals.{add-one}
 use lib.IntN.{ℤ}
 use lib.ListN.{length, take, set, length-append}
 use lib.Seq.{take-suc-set}
-use Rattle.rules.specs.Merged.{Merged, room}
+use Rattle.rules.specs.Merged.{Merged, lengths, room}
+use Rattle.rules.specs.Proving.Long.{Long}
 use Rattle.many_way_rules.specs.Sheet.{Typed, Tariff}
 use Rattle.file_records.specs.Columns.{Laid, Took}
 
@@ -39,3 +40,10 @@ took-more n l m i b c d z g h =
       ends = laid-more (λ x. x .end) n l m i (b .end) (c .end) (d .end) z (g .ends) (h .ends);
       values = laid-more (λ x. x .value) n l m i (b .value) (c .value) (d .value) z (g .values) (h .values);
     }
+
+-- columns keep their lengths, and go on keeping them
+pub long-same : (b : Merged ℤ) → Long (lengths b) (lengths b)
+long-same b = (refl, (refl, (refl, tt)))
+
+pub long-on : (b c d : Merged ℤ) → Long (lengths d) (lengths c) → Long (lengths c) (lengths b) → Long (lengths d) (lengths b)
+long-on b c d l k = (l .0 ∙ k .0, (l .1 .0 ∙ k .1 .0, (l .1 .1 .0 ∙ k .1 .1 .0, tt)))

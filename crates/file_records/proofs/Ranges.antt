@@ -1,6 +1,6 @@
 -- Ranges: how reading one ends, and what the columns take of one and of many. Assumes nothing.
-use Prim.Native.Nat.{ℕ, suc, _+_, _≤_, _<_}
-use mathlib.Core.Path.{_≡_, refl, sym, ap, _∙_}
+use Prim.Native.Nat.{ℕ, _+_, _≤_, _<_}
+use mathlib.Core.Path.{_≡_, refl, ap, _∙_}
 use mathlib.Core.Option.{none}
 use mathlib.Core.List.{List, [], _∷_, _++_}
 use native.Mathlib.Omega.{arith}
@@ -11,14 +11,14 @@ use Rattle.rules.specs.Merged.{Merged, lengths, room}
 use Rattle.rules.specs.Proving.Long.{Long}
 use Rattle.many_way_rules.specs.Sheet.{Typed, Tariff}
 use Rattle.tariff_file.specs.Layout.{number, integer, field-value, values}
-use Rattle.tariff_file.specs.Reader.{stop, got, follow}
+use Rattle.tariff_file.specs.Reader.{stop, got, Reader, follow}
 use Rattle.tariff_file.specs.File.{range-layout, held-range, read-range, read-ranges}
 use Rattle.tariff_file.specs.declared.Passed.{Passed}
 use Rattle.tariff_file.specs.declared.Passed.the-variants.{Past, Stopped}
 use Rattle.tariff_file.specs.declared.Refusal.{Refusal}
 use Rattle.file_records.specs.Ends.{Got, Ends, There, Looked, Marked}
 use Rattle.file_records.specs.Columns.{Took}
-use Rattle.file_records.proofs.Columns.{took-none, took-one, took-more}
+use Rattle.file_records.proofs.Columns.{took-none, took-one, took-more, long-same, long-on}
 use Rattle.file_records.proofs.Turns.{Going, going-first, going-more, going-stops, going-last}
 
 module _ (s : List ℕ) (at : ℕ) where
@@ -63,16 +63,23 @@ module _ (s : List ℕ) (at : ℕ) where
             put = took-one n range-at b h x y z p q o;
           })
 
+-- ranges know nothing of those before
+abbrev each : Unit {0} → Reader (Typed ℤ ℤ)
+each u = read-range
+
+abbrev on : Unit {0} → Typed ℤ ℤ → Unit {0}
+on u x = u
+
 -- n ranges from `at` on, into the columns b from place m on: i are read, and the columns are c
 module _ (file : List ℕ) (n at m : ℕ) (b : Merged ℤ) where
   pub record Reading (c : Merged ℤ) (past i : ℕ) : Type 0 where
     pub done : Tariff ℤ
-    pub going : Going {S = Unit {0}} (λ u. read-range) (λ u x. u) file n tt at i done tt past
+    pub going : Going each on file n tt at i done tt past
     pub took : Took m b c done
     pub long : Long (lengths c) (lengths b)
 
   pub reading-first : at ≤ length file → Reading b at 0
-  reading-first h = record { done = []; going = going-first {S = Unit {0}} (λ u. read-range) (λ u x. u) file n tt at h; took = took-none m b; long = (refl, (refl, (refl, tt))) }
+  reading-first h = record { done = []; going = going-first each on file n tt at h; took = took-none m b; long = long-same b }
 
   module _ (c : Merged ℤ) (past i : ℕ) (g : Reading c past i) (more : i < n) (d : Merged ℤ) (r : Passed) (end : Ends read-range file past (λ x. Took (m + i) c d (x ∷ [])) r) where
     pub reading-more : Long (lengths d) (lengths c) → (q : ℕ) → r ≡ Past q → Reading d q (i + 1)
@@ -80,15 +87,15 @@ module _ (file : List ℕ) (n at m : ℕ) (b : Merged ℤ) where
         let h : Got read-range file past (λ x. Took (m + i) c d (x ∷ [])) q = rw e at end in
         record {
           done = g .done ++ (h .value ∷ []);
-          going = going-more {S = Unit {0}} (λ u. read-range) (λ u x. u) file n tt at (g .going) more (h .value) q (h .within) (h .read);
+          going = going-more each on file n tt at (g .going) more (h .value) q (h .within) (h .read);
           took = took-more m (g .done) (h .value ∷ []) i b c d (g .going .long) (g .took) (h .put);
-          long = (l .0 ∙ g .long .0, (l .1 .0 ∙ g .long .1 .0, (l .1 .1 .0 ∙ g .long .1 .1 .0, tt)));
+          long = long-on b c d l (g .long);
         }
 
     pub reading-stops : (Put : Tariff ℤ → Type 0) (x : Refusal) → r ≡ Stopped x → Ends (read-ranges n) file at Put r
     unfolding read-ranges
-    reading-stops Put x e = let h : read-range past (drop past file) ≡ stop x = rw e at end in rw e (going-stops {S = Unit {0}} (λ u. read-range) (λ u x. u) file n tt at (g .going) more x h)
+    reading-stops Put x e = let h : read-range past (drop past file) ≡ stop x = rw e at end in rw e (going-stops each on file n tt at (g .going) more x h)
 
   pub reading-last : (c : Merged ℤ) (past i : ℕ) → Reading c past i → n ≤ i → Ends (read-ranges n) file at (λ l. (length l ≡ n) × Took m b c l) (Past past)
   unfolding read-ranges
-  reading-last c past i g h = record { value = g .done; within = g .going .within; read = going-last {S = Unit {0}} (λ u. read-range) (λ u x. u) file n tt at (g .going) h; put = (omega (arith, g .going .long, g .going .few), g .took) }
+  reading-last c past i g h = record { value = g .done; within = g .going .within; read = going-last each on file n tt at (g .going) h; put = (omega (arith, g .going .long, g .going .few), g .took) }

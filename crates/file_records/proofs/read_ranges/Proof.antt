@@ -1,5 +1,5 @@
 -- `file_records::read_ranges` meets its contract: the ranges read stand in the columns. Assumes nothing.
-use Prim.Native.Nat.{_+_, _-_}
+use Prim.Native.Nat.{_-_}
 use mathlib.Core.Path.{_∙_}
 use native.Mathlib.Omega.{arith}
 use borrow.Author.Needs.{needs}

@@ -4,10 +4,11 @@ use mathlib.Core.Path.{_≡_, sym, ap, subst, _∙_}
 use mathlib.Core.List.{List}
 use native.Mathlib.Omega.{arith}
 use borrow.Author.Needs.{needs}
-use lib.IntN.{ℤ, pos}
-use lib.ListN.{length, take, length-replicate}
+use lib.IntN.{ℤ}
+use lib.ListN.{length}
 use lib.Seq.{length-take-le}
 use Rattle.rules.specs.Lists.{Lent}
+use Rattle.many_way_rules.specs.Sheet.{flat}
 use Rattle.tariff_file.specs.Layout.{Bytes}
 use Rattle.tariff_file.proofs.Places.{bytes-of}
 use Rattle.file_reader.specs.Holds.{Lends, Holds}
@@ -17,7 +18,7 @@ use Rattle.answer_text.specs.Answers.{answer, refusal-text}
 use Rattle.answer_text.specs.Buffer.{print}
 use Rattle.printed.specs.Printed.{head, performed, printed}
 use Rattle.printed.proofs.Records.{refusal-printed, task-printed}
-use Rattle.join_file.proofs.Counted.{counts}
+use Rattle.join_file.proofs.Counted.{counts, front-within}
 use Rattle.join_file.proofs.join_file.Statement.{statement}
 use Rattle.join_file.proofs.join_file.Tie as tie
 
@@ -39,16 +40,16 @@ lends h = let r = h .before .before in subst (λ (k : Contents). Holds (start-of
 
 -- the columns are long enough for what they hold
 starts-long : (h : tie.After-contents2) → head-of h .ranges ≤ length (columns (h .before .before) .starts)
-starts-long h = let r = h .before .before in omega (arith, lends h .few-ranges, r .read-file .kept .1 .0, length-replicate 2048 (pos 0))
+starts-long h = front-within (λ x. x .start) (flat (lends h .lists)) (head-of h .ranges) (columns (h .before .before) .starts) (ap (λ (l : Lent ℤ). l .starts) (lends h .lent)) (lends h .all-ranges)
 
 ends-long : (h : tie.After-contents2) → head-of h .ranges ≤ length (columns (h .before .before) .ends)
-ends-long h = let r = h .before .before in omega (arith, lends h .few-ranges, r .read-file .kept .1 .1 .0, length-replicate 2048 (pos 0))
+ends-long h = front-within (λ x. x .end) (flat (lends h .lists)) (head-of h .ranges) (columns (h .before .before) .ends) (ap (λ (l : Lent ℤ). l .ends) (lends h .lent)) (lends h .all-ranges)
 
 values-long : (h : tie.After-contents2) → head-of h .ranges ≤ length (columns (h .before .before) .values)
-values-long h = let r = h .before .before in omega (arith, lends h .few-ranges, r .read-file .kept .1 .1 .1 .0, length-replicate 2048 (pos 0))
+values-long h = front-within (λ x. x .value) (flat (lends h .lists)) (head-of h .ranges) (columns (h .before .before) .values) (ap (λ (l : Lent ℤ). l .values) (lends h .lent)) (lends h .all-ranges)
 
 counts-long : (h : tie.After-contents2) → head-of h .lists ≤ length (columns (h .before .before) .counts)
-counts-long h = let r = h .before .before in omega (arith, lends h .few-lists, r .read-file .kept .1 .1 .1 .1 .0, length-replicate {A = ℕ} 16 0)
+counts-long h = front-within length (lends h .lists) (head-of h .lists) (columns (h .before .before) .counts) (ap (λ (l : Lent ℤ). l .counts) (lends h .lent)) (lends h .all-lists)
 
 read-file-requires : tie.Need-read-file-requires
 read-file-requires c κs = search needs
