@@ -134,8 +134,8 @@ pub fn put_side(value: i32, there: bool, mark: u8, place: usize, out: &mut [u8])
     if there {
         put_field(value as i64, mark, place, out)
     } else {
-        out[place] = b'-';
-        out[place + 1] = mark;
-        place + 2
+        let at = put_word(b"-", place, out);
+        out[at] = mark;
+        at + 1
     }
 }
