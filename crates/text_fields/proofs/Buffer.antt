@@ -33,7 +33,7 @@ module _ (at : ℕ) (s old : List ℕ) (h : at + length s ≤ length old) where
   before = ap (take (at + length s)) regroup ∙ take-at (take at old ++ s) (drop (at + length s) old) (at + length s) whole-long
 
   -- a text after another
-  pub over-over : (t : List ℕ) → over (at + length s) t (over at s old) ≡ over at (s ++ t) old
+  over-over : (t : List ℕ) → over (at + length s) t (over at s old) ≡ over at (s ++ t) old
   over-over t = rw (before, after (length t), length-append, append-assoc, append-assoc, add-assoc)
 
 -- one place after another

@@ -30,6 +30,7 @@ pub refusal-fields : (c n : ℕ) → refusal-text c n ≡ joined (fielded (refus
 unfolding refusal-text
 refusal-fields c n = append-nil (line (refusal c n)) ∙ line-fields (refusal c n)
 
+-- a text that fits, and one that does not
 pub printed : (t old new : List ℕ) (r : ℕ) → length t ≤ length old → Put 0 t old new r → leaves r new ≡ print t old
 printed t old new r h p =
     let e : r ≡ length t = omega (arith, p .after) in
