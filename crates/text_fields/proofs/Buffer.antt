@@ -5,7 +5,7 @@ use mathlib.Core.List.{List, [], _∷_, _++_, append-assoc}
 use native.Mathlib.Nat.{add-assoc, add-zero}
 use native.Mathlib.Omega.{arith}
 use native.Mathlib.Numerals.{add-one}
-use lib.ListN.{length, take, drop, set, length-append, length-drop, length-set, take-append-drop}
+use lib.ListN.{length, take, drop, set, length-append, length-drop, take-append-drop}
 use lib.Seq.{length-take-le, take-at, drop-append-add, drop-drop, set-split, paste, take-length}
 use Rattle.answer_text.specs.Buffer.{over, Room, Put}
 
@@ -33,7 +33,7 @@ module _ (at : ℕ) (s old : List ℕ) (h : at + length s ≤ length old) where
   before = ap (take (at + length s)) regroup ∙ take-at (take at old ++ s) (drop (at + length s) old) (at + length s) whole-long
 
   -- a text after another
-  pub over-over : (t : List ℕ) → over (at + length s) t (over at s old) ≡ over at (s ++ t) old
+  over-over : (t : List ℕ) → over (at + length s) t (over at s old) ≡ over at (s ++ t) old
   over-over t = rw (before, after (length t), length-append, append-assoc, append-assoc, add-assoc)
 
 -- one place after another
@@ -72,12 +72,6 @@ module _ (at b : ℕ) (s old : List ℕ) (h : Room at (s ++ (b ∷ [])) old) whe
 
   pub marked : {r : ℕ} {mid : List ℕ} → Put at s old mid r → Put at (s ++ (b ∷ [])) old (set mid r b) (r + 1)
   marked {r} {mid} a = puts first-room a (put-one r b mid (mark-room a))
-
--- two bytes
-pub put-two : (at b d : ℕ) (old : List ℕ) → at + 1 < length old → Put at (b ∷ d ∷ []) old (set (set old at b) (at + 1) d) (at + 2)
-put-two at b d old h =
-    let l : at + 1 < length (set old at b) = simp length-set h in
-    record { after = refl; bytes = puts {s = b ∷ []} {t = d ∷ []} (omega arith) (put-one at b old (omega arith)) (put-one (at + 1) d (set old at b) l) .bytes }
 
 -- a copy
 pub put-copy : (at : ℕ) (s old : List ℕ) → Put at s old (paste old at s (length s)) (at + length s)

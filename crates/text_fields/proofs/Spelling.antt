@@ -26,15 +26,14 @@ pub record Spelling (n place at rest : ℕ) (old out : List ℕ) : Type 0 where
   pub digits : digits 10 k rest ++ written ≡ decimal n
   pub bytes : out ≡ over at written old
 
-module _ (n place : ℕ) (old : List ℕ) where
-  pub spell-none : Spelling n place (place + length (decimal n)) n old old
-  spell-none = record {
-    k = length (decimal n);
-    written = [];
-    from = refl;
-    digits = append-nil (digits 10 (length (decimal n)) n) ∙ sym (decimal-spelt n);
-    bytes = put-none (place + length (decimal n)) old .bytes;
-  }
+pub spell-none : (n place : ℕ) (old : List ℕ) → Spelling n place (place + length (decimal n)) n old old
+spell-none n place old = record {
+  k = length (decimal n);
+  written = [];
+  from = refl;
+  digits = append-nil (digits 10 (length (decimal n)) n) ∙ sym (decimal-spelt n);
+  bytes = put-none (place + length (decimal n)) old .bytes;
+}
 
 module _ {n place at rest : ℕ} {old out : List ℕ} (h : Room place (decimal n) old) (s : Spelling n place at rest old out) where
   long : s .k + length (s .written) ≡ length (decimal n)

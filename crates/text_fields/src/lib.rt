@@ -1,5 +1,5 @@
 // Numbers and fields of the text into a lent buffer: how many bytes each takes, and the bytes from a place on.
-ghost use Prim.Native.Nat.{_≤_, _<_};
+ghost use Prim.Native.Nat.{_≤_};
 ghost use mathlib.Core.Path.{_≡_};
 ghost use mathlib.Core.List.{[], _∷_, _++_};
 ghost use lib.IntN.{natAbs};
@@ -44,6 +44,7 @@ fn places(n: u64) -> usize
     }
 }
 
+// How many bytes a natural number takes.
 pub fn digits_width(n: u64) -> usize
     ensures { λ r. ⌜ (r ≡ length (decimal n)) × (r ≤ 20) ⌝ }
 {
@@ -65,7 +66,7 @@ pub fn side_width(value: i32, there: bool) -> usize
     if there { width(value as i64) } else { 1 }
 }
 
-// Writes a word at a place. Each of these answers the place after what it wrote.
+// Writes a word at a place. This and each below answers the place after what it wrote.
 pub fn put_word(word: &[u8], place: usize, out: &mut [u8]) -> usize
     requires { ⌜ Room place (now word) (now out) ⌝ }
     ensures { λ r. ⌜ Put place (now (word .entry)) (now (out .entry)) (now (out .exit)) r ⌝ }
@@ -78,6 +79,7 @@ pub fn put_word(word: &[u8], place: usize, out: &mut [u8]) -> usize
     place + word.len()
 }
 
+// Writes a natural number.
 fn put_digits(n: u64, place: usize, out: &mut [u8]) -> usize
     requires { ⌜ Room place (decimal n) (now out) ⌝ }
     ensures { λ r. ⌜ Put place (decimal n) (now (out .entry)) (now (out .exit)) r ⌝ }
@@ -93,6 +95,7 @@ fn put_digits(n: u64, place: usize, out: &mut [u8]) -> usize
     end
 }
 
+// Writes a number.
 fn put_number(z: i64, place: usize, out: &mut [u8]) -> usize
     requires { ⌜ Room place (signed z) (now out) ⌝ }
     ensures { λ r. ⌜ Put place (signed z) (now (out .entry)) (now (out .exit)) r ⌝ }
@@ -134,8 +137,8 @@ pub fn put_side(value: i32, there: bool, mark: u8, place: usize, out: &mut [u8])
     if there {
         put_field(value as i64, mark, place, out)
     } else {
-        out[place] = b'-';
-        out[place + 1] = mark;
-        place + 2
+        let at = put_word(b"-", place, out);
+        out[at] = mark;
+        at + 1
     }
 }

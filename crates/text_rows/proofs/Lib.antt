@@ -1,4 +1,2 @@
--- What the proofs of rows use: a text written part by part, the lines of a table, and a whole answer.
-pub mod Parts
-pub mod Tables
+-- What the proofs of whole answers use: a text printed, or none of it.
 pub mod Prints

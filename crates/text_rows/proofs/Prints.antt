@@ -1,8 +1,8 @@
--- A whole text at the front of a buffer, or none of it; an answer is its header, then its rows. Assumes nothing.
+-- A whole text at the front of a buffer, or none of it; an answer is its header, then its rows; the fields of their lines. Assumes nothing.
 use Prim.Native.Nat.{ℕ, zero, suc, _+_, _-_, _≤_, _<_}
 use mathlib.Core.Path.{_≡_, refl, sym, ap, _∙_}
 use mathlib.Core.Bool.{true, false}
-use mathlib.Core.List.{List, _∷_, [], _++_, map}
+use mathlib.Core.List.{List, _∷_, [], _++_, map, append-nil}
 use native.Mathlib.Nat.{zero-add}
 use native.Mathlib.Omega.{arith}
 use native.Mathlib.Numerals.{add-one}
@@ -13,11 +13,24 @@ use borrow.Author.Tests.{le-leb, lt-leb, leb-true, leb-false}
 use Rattle.rules.specs.Merged.{Merged}
 use Rattle.rules.specs.Paired.{Paired}
 use Rattle.answer_text.specs.Lines.{line, text}
-use Rattle.answer_text.specs.Answers.{header, firsts, row, row-at, pair, pair-at, merged-text, paired-text}
+use Rattle.answer_text.specs.Answers.{header, refusal, refusal-text, firsts, row, row-at, pair, pair-at, merged-text, paired-text}
 use Rattle.answer_text.specs.Buffer.{Room, Put, leaves, print}
 use Rattle.text_fields.proofs.Buffer.{puts, room-left}
-use Rattle.text_rows.specs.Parts.{header-text, table, rows-text, pairs-text}
+use Rattle.text_fields.specs.Tables.{table}
+use Rattle.text_fields.proofs.Parts.{joined, fielded, line-fields}
+use Rattle.text_pairs.specs.Pairs.{pairs-text}
+use Rattle.text_rows.specs.Parts.{header-text, rows-text}
 
+-- the fields of a header and of a refusal
+pub header-fields : (o c l n : ℕ) → header-text o c l n ≡ joined (fielded (header o c l n))
+unfolding header-text
+header-fields o c l n = line-fields (header o c l n)
+
+pub refusal-fields : (c n : ℕ) → refusal-text c n ≡ joined (fielded (refusal c n))
+unfolding refusal-text
+refusal-fields c n = append-nil (line (refusal c n)) ∙ line-fields (refusal c n)
+
+-- a text that fits, and one that does not
 pub printed : (t old new : List ℕ) (r : ℕ) → length t ≤ length old → Put 0 t old new r → leaves r new ≡ print t old
 printed t old new r h p =
     let e : r ≡ length t = omega (arith, p .after) in

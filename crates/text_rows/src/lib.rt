@@ -9,9 +9,9 @@ ghost use Rattle.rules.specs.Merged.{output, before};
 ghost use Rattle.rules.specs.Paired.{output as pair-output, before as pair-before};
 ghost use Rattle.answer_text.specs.Answers.{merged-text, paired-text, refusal-text};
 ghost use Rattle.answer_text.specs.Buffer.{Room, Put, leaves, print};
-ghost use Rattle.text_rows.specs.Parts.{header-text, Rows, Pairs};
+ghost use Rattle.text_pairs.specs.Pairs.{Pairs};
+ghost use Rattle.text_rows.specs.Parts.{header-text, Rows};
 
-pub mod pairs;
 pub mod rows;
 
 // How many bytes the header takes.
@@ -83,9 +83,9 @@ pub fn print_paired(
     if out.len() < head {
         return 0;
     }
-    if pairs::fit(start, end, left, right, presence, n, out.len() - head) {
+    if text_pairs::fit(start, end, left, right, presence, n, out.len() - head) {
         let at = put_header(operation, combiner, lists, n, out);
-        pairs::put_rows(start, end, left, right, presence, n, at, out)
+        text_pairs::put_rows(start, end, left, right, presence, n, at, out)
     } else {
         0
     }

@@ -3,7 +3,7 @@ use mathlib.Core.Path.{ap}
 use native.Mathlib.Omega.{arith}
 use lib.ListN.{length, length-append}
 use borrow.Author.Needs.{needs}
-use Rattle.text_rows.proofs.Parts.{header-fields}
+use Rattle.text_rows.proofs.Prints.{header-fields}
 use Rattle.text_rows.proofs.header_width.Statement.{statement}
 use Rattle.text_rows.proofs.header_width.Tie as tie
 

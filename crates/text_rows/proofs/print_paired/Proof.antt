@@ -10,7 +10,8 @@ use lib.ListN.{length}
 use borrow.Author.Needs.{needs}
 use Rattle.rules.specs.Paired.{Paired, output}
 use Rattle.answer_text.specs.Answers.{paired-text}
-use Rattle.text_rows.specs.Parts.{header-text, pairs-text}
+use Rattle.text_rows.specs.Parts.{header-text}
+use Rattle.text_pairs.specs.Pairs.{pairs-text}
 use Rattle.text_rows.proofs.Prints.{Halves, first-unfit, second-unfit, first-room, second-room, both-printed, paired-parts}
 use Rattle.text_rows.proofs.print_paired.Statement.{statement}
 use Rattle.text_rows.proofs.print_paired.Tie as tie

@@ -7,8 +7,8 @@ use lib.ListN.{length, length-append}
 use borrow.Author.Needs.{needs}
 use Rattle.answer_text.specs.Numbers.{decimal}
 use Rattle.answer_text.specs.Answers.{refusal, refusal-text}
-use Rattle.text_rows.proofs.Parts.{Going, fielded, refusal-fields, begin, next-room, step, finish}
-use Rattle.text_rows.proofs.Prints.{printed, unprinted}
+use Rattle.text_fields.proofs.Parts.{Going, fielded, begin, next-room, step, finish}
+use Rattle.text_rows.proofs.Prints.{refusal-fields, printed, unprinted}
 use Rattle.text_rows.proofs.print_refusal.Statement.{statement}
 use Rattle.text_rows.proofs.print_refusal.Tie as tie
 

@@ -5,7 +5,8 @@ use borrow.Author.Needs.{needs}
 use Rattle.answer_text.specs.Numbers.{decimal}
 use Rattle.answer_text.specs.Answers.{header}
 use Rattle.text_rows.specs.Parts.{header-text}
-use Rattle.text_rows.proofs.Parts.{Going, fielded, header-fields, begin, next-room, step, finish}
+use Rattle.text_fields.proofs.Parts.{Going, fielded, begin, next-room, step, finish}
+use Rattle.text_rows.proofs.Prints.{header-fields}
 use Rattle.text_rows.proofs.put_header.Statement.{statement}
 use Rattle.text_rows.proofs.put_header.Tie as tie
 

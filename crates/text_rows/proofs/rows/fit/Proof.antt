@@ -5,8 +5,8 @@ use native.Mathlib.Omega.{arith}
 use lib.ListN.{length}
 use Rattle.rules.specs.Merged.{output}
 use Rattle.answer_text.specs.Answers.{Row, row, row-at}
-use Rattle.text_rows.specs.Parts.{table}
-use Rattle.text_rows.proofs.Tables.{spare-none, spare-more, not-fit, all-fit}
+use Rattle.text_fields.specs.Tables.{table}
+use Rattle.text_fields.proofs.Tables.{spare-none, spare-more, not-fit, all-fit}
 use Rattle.text_rows.proofs.rows.fit.Statement.{statement}
 use Rattle.text_rows.proofs.rows.fit.Tie as tie
 

@@ -10,7 +10,7 @@ use Rattle.rules.specs.Merged.{Merged, output}
 use Rattle.answer_text.specs.Numbers.{signed}
 use Rattle.answer_text.specs.Answers.{row, row-at}
 use Rattle.text_rows.specs.Parts.{row-text}
-use Rattle.text_rows.proofs.Parts.{Going, fielded, row-fields, begin, next-room, step, finish}
+use Rattle.text_fields.proofs.Parts.{Going, fielded, row-fields, begin, next-room, step, finish}
 use Rattle.text_rows.proofs.rows.put_row.Statement.{statement}
 use Rattle.text_rows.proofs.rows.put_row.Tie as tie
 

@@ -5,8 +5,8 @@ use native.Mathlib.Omega.{arith}
 use Rattle.rules.specs.Merged.{output}
 use Rattle.answer_text.specs.Answers.{Row, row, row-at}
 use Rattle.answer_text.specs.Buffer.{Put}
-use Rattle.text_rows.specs.Parts.{table}
-use Rattle.text_rows.proofs.Tables.{put-first, still-long, line-room, put-next}
+use Rattle.text_fields.specs.Tables.{table}
+use Rattle.text_fields.proofs.Tables.{put-first, still-long, line-room, put-next}
 use Rattle.text_rows.proofs.rows.put_rows.Statement.{statement}
 use Rattle.text_rows.proofs.rows.put_rows.Tie as tie
 

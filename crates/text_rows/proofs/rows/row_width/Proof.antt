@@ -10,7 +10,7 @@ use Rattle.integer.proofs.Laws.{back}
 use Rattle.rules.specs.Merged.{output}
 use Rattle.answer_text.specs.Numbers.{signed}
 use Rattle.answer_text.specs.Answers.{row, row-at}
-use Rattle.text_rows.proofs.Parts.{row-fields}
+use Rattle.text_fields.proofs.Parts.{row-fields}
 use Rattle.text_rows.proofs.rows.row_width.Statement.{statement}
 use Rattle.text_rows.proofs.rows.row_width.Tie as tie
 

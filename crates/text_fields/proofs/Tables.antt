@@ -12,8 +12,8 @@ use Rattle.answer_text.specs.Lines.{line, text}
 use Rattle.answer_text.specs.Answers.{firsts}
 use Rattle.answer_text.specs.Buffer.{Room, Put}
 use Rattle.answer_text.proofs.Numbers.{by-test}
 use Rattle.text_fields.proofs.Buffer.{puts, put-none, put-long, room-left}
-use Rattle.text_rows.specs.Parts.{line-at, table}
+use Rattle.text_fields.specs.Tables.{line-at, table}
 
 text-append : (ls ms : List (List (List ℕ))) → text (ls ++ ms) ≡ text ls ++ text ms
 text-append [] ms = refl

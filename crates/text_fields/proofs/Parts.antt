@@ -5,10 +5,9 @@ use mathlib.Core.List.{List, [], _∷_, _++_, append-assoc, append-nil}
 use native.Mathlib.Omega.{arith}
 use lib.ListN.{length, length-append}
 use Rattle.answer_text.specs.Lines.{line}
-use Rattle.answer_text.specs.Answers.{header, refusal, refusal-text}
 use Rattle.answer_text.specs.Buffer.{Room, Put}
 use Rattle.text_fields.proofs.Buffer.{puts, put-none, room-left}
-use Rattle.text_rows.specs.Parts.{header-text, line-at}
+use Rattle.text_fields.specs.Tables.{line-at}
 
 abbrev pub joined : List (List ℕ) → List ℕ
 joined [] = []
@@ -43,18 +42,10 @@ fielded [] = (10 ∷ []) ∷ []
 fielded (f ∷ []) = (f ++ (10 ∷ [])) ∷ []
 fielded (f ∷ g ∷ fs) = (f ++ (32 ∷ [])) ∷ fielded (g ∷ fs)
 
-line-fields : (fs : List (List ℕ)) → line fs ≡ joined (fielded fs)
+pub line-fields : (fs : List (List ℕ)) → line fs ≡ joined (fielded fs)
 line-fields [] = refl
 line-fields (f ∷ []) = sym (append-nil (f ++ (10 ∷ [])))
 line-fields (f ∷ g ∷ fs) = simp append-assoc (ap (λ (t : List ℕ). f ++ (32 ∷ t)) (line-fields (g ∷ fs)))
-
-pub header-fields : (o c l n : ℕ) → header-text o c l n ≡ joined (fielded (header o c l n))
-unfolding header-text
-header-fields o c l n = line-fields (header o c l n)
-
-pub refusal-fields : (c n : ℕ) → refusal-text c n ≡ joined (fielded (refusal c n))
-unfolding refusal-text
-refusal-fields c n = append-nil (line (refusal c n)) ∙ line-fields (refusal c n)
 
 pub row-fields : {R : Type 0} (f : R → List (List ℕ)) (g : ℕ → R) (i : ℕ) → line-at f g i ≡ joined (fielded (f (g i)))
 unfolding line-at

@@ -5,10 +5,10 @@ use native.Mathlib.Omega.{arith}
 use lib.ListN.{length}
 use Rattle.rules.specs.Paired.{output}
 use Rattle.answer_text.specs.Answers.{Pair, pair, pair-at}
-use Rattle.text_rows.specs.Parts.{table}
-use Rattle.text_rows.proofs.Tables.{spare-none, spare-more, not-fit, all-fit}
-use Rattle.text_rows.proofs.pairs.fit.Statement.{statement}
-use Rattle.text_rows.proofs.pairs.fit.Tie as tie
+use Rattle.text_fields.specs.Tables.{table}
+use Rattle.text_fields.proofs.Tables.{spare-none, spare-more, not-fit, all-fit}
+use Rattle.text_pairs.proofs.fit.Statement.{statement}
+use Rattle.text_pairs.proofs.fit.Tie as tie
 
 abbrev Inv-loop : tie.InvT-loop
 Inv-loop start end left right presence n room spare₀ i₀ spare i = (i ≤ n) × (length (table pair (pair-at (record { start = start; end = end; left = left; right = right; presence = presence })) i) + spare ≡ room)

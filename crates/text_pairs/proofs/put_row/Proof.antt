@@ -10,10 +10,10 @@ use Rattle.integer.proofs.Laws.{back}
 use Rattle.rules.specs.Paired.{Paired, output}
 use Rattle.answer_text.specs.Numbers.{signed}
 use Rattle.answer_text.specs.Answers.{pair, pair-at, side, present, left-there, right-there}
-use Rattle.text_rows.specs.Parts.{pair-text}
-use Rattle.text_rows.proofs.Parts.{Going, fielded, row-fields, begin, next-room, step, finish}
-use Rattle.text_rows.proofs.pairs.put_row.Statement.{statement}
-use Rattle.text_rows.proofs.pairs.put_row.Tie as tie
+use Rattle.text_pairs.specs.Pairs.{pair-text}
+use Rattle.text_fields.proofs.Parts.{Going, fielded, row-fields, begin, next-room, step, finish}
+use Rattle.text_pairs.proofs.put_row.Statement.{statement}
+use Rattle.text_pairs.proofs.put_row.Tie as tie
 
 abbrev P₀ : tie.Start → Paired ℤ
 P₀ s = output (s .args .start) (s .args .end) (s .args .left) (s .args .right) (s .args .presence)

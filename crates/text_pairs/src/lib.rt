@@ -10,7 +10,7 @@ ghost use lib.Dec.{leb};
 ghost use lib.ListN.{length};
 ghost use Rattle.rules.specs.Paired.{output, before};
 ghost use Rattle.answer_text.specs.Buffer.{Room, Put};
-ghost use Rattle.text_rows.specs.Parts.{pair-text, pairs-text, Pairs};
+ghost use Rattle.text_pairs.specs.Pairs.{pair-text, pairs-text, Pairs};
 
 // How many bytes the row at an index takes.
 fn row_width(

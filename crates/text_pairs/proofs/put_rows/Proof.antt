@@ -5,10 +5,10 @@ use native.Mathlib.Omega.{arith}
 use Rattle.rules.specs.Paired.{output}
 use Rattle.answer_text.specs.Answers.{Pair, pair, pair-at}
 use Rattle.answer_text.specs.Buffer.{Put}
-use Rattle.text_rows.specs.Parts.{table}
-use Rattle.text_rows.proofs.Tables.{put-first, still-long, line-room, put-next}
-use Rattle.text_rows.proofs.pairs.put_rows.Statement.{statement}
-use Rattle.text_rows.proofs.pairs.put_rows.Tie as tie
+use Rattle.text_fields.specs.Tables.{table}
+use Rattle.text_fields.proofs.Tables.{put-first, still-long, line-room, put-next}
+use Rattle.text_pairs.proofs.put_rows.Statement.{statement}
+use Rattle.text_pairs.proofs.put_rows.Tie as tie
 
 abbrev Inv-loop : tie.InvT-loop
 Inv-loop start end left right presence n place out₀ at₀ i₀ out at i = (i ≤ n) × Put place (table pair (pair-at (record { start = start; end = end; left = left; right = right; presence = presence })) i) out₀ out at

@@ -10,9 +10,9 @@ use Rattle.integer.proofs.Laws.{back}
 use Rattle.rules.specs.Paired.{output}
 use Rattle.answer_text.specs.Numbers.{signed}
 use Rattle.answer_text.specs.Answers.{pair, pair-at, side, present, left-there, right-there}
-use Rattle.text_rows.proofs.Parts.{row-fields}
-use Rattle.text_rows.proofs.pairs.row_width.Statement.{statement}
-use Rattle.text_rows.proofs.pairs.row_width.Tie as tie
+use Rattle.text_fields.proofs.Parts.{row-fields}
+use Rattle.text_pairs.proofs.row_width.Statement.{statement}
+use Rattle.text_pairs.proofs.row_width.Tie as tie
 
 pub row-width-spec : {M : Type 1} → statement M
 row-width-spec =

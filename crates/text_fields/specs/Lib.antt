@@ -1,0 +1,2 @@
+-- Rows as lines of text.
+pub mod Tables

@@ -1,0 +1,2 @@
+-- Two-way rows as text.
+pub mod Pairs
