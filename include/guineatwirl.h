@@ -46,7 +46,7 @@ extern "C" {
 
 /* The longest tariff file, and the longest text that one gives. */
 #define GUINEATWIRL_MAX_FILE 45126
-#define GUINEATWIRL_MAX_TEXT 270286
+#define GUINEATWIRL_MAX_TEXT 249806
 
 /* What a call answers. Where several are due, the first of 1, 2, 4, 3, 7, then the first range that is wrong (5 before 6), then 8. The
    number is 0 unless another is named. The place of a range is counted from 0 through all lists. */

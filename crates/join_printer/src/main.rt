@@ -6,7 +6,7 @@ use join_file::join_file;
 const MOST: usize = 45127;
 
 // Room for the longest text.
-const ROOM: usize = 270286;
+const ROOM: usize = 249806;
 
 fn main() {
     let mut file: [u8; MOST] = [0; MOST];

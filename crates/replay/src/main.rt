@@ -3,6 +3,9 @@
 
 use join_file::join_file;
 ghost use Prim.Native.Nat.{_≤_};
+ghost use mathlib.Core.Path.{_≡_};
+ghost use mathlib.Core.Bool.{true};
+ghost use lib.ListN.{length as ListN·length};
 
 // Room for a file of the list, and for its text.
 const ROOM: usize = 65536;
@@ -26,21 +29,32 @@ fn told(a: u8, b: u8, c: u8, d: u8) -> usize {
     wide(a) * 16777216 + wide(b) * 65536 + wide(c) * 256 + wide(d)
 }
 
-// The file and the text of these lengths that come next in the list.
-fn replay_file(fd: i32, file_length: usize, text_length: usize) -> Found {
-    let mut file: [u8; ROOM] = [0; ROOM];
-    let mut want: [u8; ROOM] = [0; ROOM];
-    let mut text: [u8; ROOM] = [0; ROOM];
-    if ROOM < file_length || ROOM < text_length {
+// Reads so many bytes to the front of a buffer, and answers whether there is room for them and they were there.
+fn read_part(fd: i32, length: usize, part: &mut [u8]) -> bool
+    ensures { λ r. ⌜ (r ≡ true → length ≤ ListN·length (now (part .exit))) ⌝ }
+{
+    if part.len() < length {
+        return false;
+    }
+    io::read_full(fd, &mut part[..length]) == length
+}
+
+// The file and the text of these lengths that come next in the list, read into buffers.
+fn replay_file(
+    fd: i32,
+    file_length: usize,
+    text_length: usize,
+    file: &mut [u8],
+    want: &mut [u8],
+    text: &mut [u8],
+) -> Found {
+    if !read_part(fd, file_length, file) {
         return Found::Broken;
     }
-    if io::read_full(fd, &mut file[..file_length]) < file_length {
+    if !read_part(fd, text_length, want) {
         return Found::Broken;
     }
-    if io::read_full(fd, &mut want[..text_length]) < text_length {
-        return Found::Broken;
-    }
-    let count = join_file(&file[..file_length], &mut text);
+    let count = join_file(&file[..file_length], text);
     if check::same(&text[..count], &want[..text_length]) {
         Found::Agrees
     } else {
@@ -60,7 +74,17 @@ fn replay_next(fd: i32) -> Found {
     }
     let file_length = told(head[0], head[1], head[2], head[3]);
     let text_length = told(head[4], head[5], head[6], head[7]);
-    replay_file(fd, file_length, text_length)
+    let mut file: [u8; ROOM] = [0; ROOM];
+    let mut want: [u8; ROOM] = [0; ROOM];
+    let mut text: [u8; ROOM] = [0; ROOM];
+    replay_file(
+        fd,
+        file_length,
+        text_length,
+        &mut file,
+        &mut want,
+        &mut text,
+    )
 }
 
 fn say(words: &[u8]) {
