@@ -1,2 +1,3 @@
 pub mod Machine
+pub mod Columns
 pub mod Empties
