@@ -36,7 +36,10 @@ fn lend(starts: &[Point], ends: &[Point], values: &[i32], mut sweep: Sweep) -> A
 // Whether an event is the one of a row of the listing, its point told by its key.
 fn is_listed(taken: Step, kind: u8, key: u64, list: usize, amount: i32) -> bool {
     match taken {
-        Step::Start(range, of, value, _) => kind == 0 && key == range.start && list == of && amount == value,
+        Step::Start(range, of, value, _) => kind == 0
+            && key == range.start
+            && list == of
+            && amount == value,
         Step::End(end, of, _) => kind == 1 && key == end && list == of && amount == 0,
         Step::Done => false,
     }
@@ -62,7 +65,13 @@ fn drained(
         let went = lend(starts, ends, values, sweep);
         let taken = went.taken;
         let left = went.sweep;
-        if !is_listed(taken, kinds[place], key_at(points, place), wide(lists[place]), amounts[place]) {
+        if !is_listed(
+            taken,
+            kinds[place],
+            key_at(points, place),
+            wide(lists[place]),
+            amounts[place],
+        ) {
             return Compared::Differ(place);
         }
         sweep = left;
@@ -85,14 +94,33 @@ fn compare(starts: &[Point], ends: &[Point], values: &[i32], counts: &[u32]) -> 
     let mut points: [Point; 16] = [0; 16];
     let mut lists: [u8; 16] = [0; 16];
     let mut amounts: [i32; 16] = [0; 16];
-    let answer = list_events(starts, ends, values, counts, &mut kinds, &mut points, &mut lists, &mut amounts);
+    let answer = list_events(
+        starts,
+        ends,
+        values,
+        counts,
+        &mut kinds,
+        &mut points,
+        &mut lists,
+        &mut amounts,
+    );
     let Answer::Done(rows) = answer else {
         return Compared::Refused;
     };
     if 16 < rows {
         return Compared::Refused;
     }
-    drained(starts, ends, values, counts, rows, &kinds, &points, &lists, &amounts)
+    drained(
+        starts,
+        ends,
+        values,
+        counts,
+        rows,
+        &kinds,
+        &points,
+        &lists,
+        &amounts,
+    )
 }
 
 // The first n of some ranges, in lists that the counts tell.
