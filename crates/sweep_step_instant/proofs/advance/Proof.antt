@@ -41,6 +41,7 @@ use denote.Triple.Walked.{says, needs, Stays, stay-ref, stay-none-slice, walkOf,
 use denote.Exit.{yes}
 use Rattle.rules.specs.Lists.{instants}
 use Rattle.multiway_sweep.specs.Sweeps.{Advances}
+use Rattle.multiway_sweep.specs.declared.Step.{Step}
 use Rattle.multiway_sweep.specs.declared.Sweep.{Sweep}
 use Rattle.multiway_sweep.specs.declared.Advance.{Advance}
 use Rattle.multiway_sweep.proofs.Step as E
@@ -53,7 +54,7 @@ use Rattle.multiway_sweep_instant.proofs.next as next
 use Rattle.multiway_sweep_instant.proofs.next.Symbol as next-def
 use Rattle.multiway_sweep_instant.proofs.next.Symbol.{name as #next}
 use Rattle.multiway_sweep_instant.proofs.next.Met as next-thm
-use Rattle.sweep_step.specs.Lent.{Goes}
+use Rattle.sweep_step.specs.Lent.{Goes, Moves}
 use Rattle.sweep_step.proofs.Columns.{slice, Columns, lists, Passed, Known, Own, Tokens, FourTokens, twice, passes, parts, four-tokens, fourth-token}
 use Rattle.sweep_step.proofs.Machine.{instant, sweep-val, taken-val, sweep-is, taken-is}
 use Rattle.sweep_step_instant.proofs.advance.Key.{name as #advance}
@@ -111,15 +112,28 @@ module _ {M : Type 1} (𝓤 : URA M) (H : Heap 𝓤) (A : Atoms 𝓤) (W : Given
   said : (r : Advance) → ent 𝓤 (Ensured r) (fact 𝓤 (Advances instants (lists c) h r))
   said r = exE 𝓤 _ (λ ws. snd∗ 𝓤 (sem 𝓤 H A (lasts next.ended (c .κ₀, (c .κ₁, (c .κ₂, tt))) (c .starts, (c .ends, (c .values, (h, tt)))) ws)) (fact 𝓤 (Advances instants (lists c) h r)))
 
-  -- the sweep stands after the step, and what it took is the result
-  exits : (r : Advance) (u : Val) → Is B.the-row r (u ∷ []) → Advances instants (lists c) h r
-      → ent 𝓤 (⋆ 𝓤 H A (‵ (fobs γ (T.the-row .coded .code (r .sweep))) ∷ ‵ (fbor κ (Body (mem T.the-row) b o γ)) ∷ ‵ (flft κ q) ∷ Tokens c 𝓤 H A ∷ Own c 𝓤 H A ∷ [])) (Post (taken-val (r .taken)))
-  exits r u is went =
-      qed W (‵ (fobs γ (T.the-row .coded .code (r .sweep))) ∷ ‵ (fbor κ (Body (mem T.the-row) b o γ)) ∷ ‵ (flft κ q) ∷ Tokens c 𝓤 H A ∷ Own c 𝓤 H A ∷ []) ∵
-      suffices ! _ (ends-at 𝓤 H A advance.ended stayed (advance.clauses 𝓤 H A at-mem run) W ((κs, qs, tt, a, at), tt) (taken-val (r .taken)) (r .taken) (tt, (tt, (tt, (r .sweep, tt)))) (tt, (tt, (tt, (tt, tt))))) $ says ! went $
+  -- what is stored in the sweep's place, and what is answered
+  abbrev stored : Advance → Sweep
+  stored r = r .sweep
+
+  abbrev answered : Advance → Step
+  answered r = r .taken
+
+  stored-is : Is T.the-row h (sweep-val h ∷ []) → (r : Advance) (u : Val) → Is B.the-row r (u ∷ []) → Is T.the-row (stored r) (sweep-val (stored r) ∷ [])
+  stored-is was r u is = sweep-is r u is
+
+  answered-is : (r : Advance) (u : Val) → Is B.the-row r (u ∷ []) → Is E.the-row (answered r) (taken-val (answered r) ∷ [])
+  answered-is r u is = taken-is r u is
+
+  -- at exit: t is answered, and the sweep stands at x
+  exits : (t : Step) (x : Sweep) → Is E.the-row t (taken-val t ∷ []) → Moves instants (lists c) h t x
+      → ent 𝓤 (⋆ 𝓤 H A (‵ (fobs γ (T.the-row .coded .code x)) ∷ ‵ (fbor κ (Body (mem T.the-row) b o γ)) ∷ ‵ (flft κ q) ∷ Tokens c 𝓤 H A ∷ Own c 𝓤 H A ∷ [])) (Post (taken-val t))
+  exits t x is moves =
+      qed W (‵ (fobs γ (T.the-row .coded .code x)) ∷ ‵ (fbor κ (Body (mem T.the-row) b o γ)) ∷ ‵ (flft κ q) ∷ Tokens c 𝓤 H A ∷ Own c 𝓤 H A ∷ []) ∵
+      suffices ! _ (ends-at 𝓤 H A advance.ended stayed (advance.clauses 𝓤 H A at-mem run) W ((κs, qs, tt, a, at), tt) (taken-val t) t (tt, (tt, (tt, (x, tt)))) (tt, (tt, (tt, (tt, tt))))) $ says ! moves $
       move ! (3 ∷ 2 ∷ []) $ use2 W (FourTokens c 𝓤 H A κ q) (four-tokens c 𝓤 H A W κ q) $ frame ! $
-      feqI ! (List Val) (vptr b o ∷ []) (vptr b o ∷ []) refl $ fjoin3 ! $ move ! (1 ∷ 0 ∷ []) $ use2 W (‵ (Passed c (Held (r .sweep)))) (passes c 𝓤 H A W (Held (r .sweep))) $ frame ! $
-      owned ! E.the-row (Is E.the-row) (enum.makes E.the-type E′.the-plain 𝓤 H A) (r .taken) _ (taken-is r u is) $ done !
+      feqI ! (List Val) (vptr b o ∷ []) (vptr b o ∷ []) refl $ fjoin3 ! $ move ! (1 ∷ 0 ∷ []) $ use2 W (‵ (Passed c (Held x))) (passes c 𝓤 H A W (Held x)) $ frame ! $
+      owned ! E.the-row (Is E.the-row) (enum.makes E.the-type E′.the-plain 𝓤 H A) t _ is $ done !
 
   module _ (C : Calls 𝓤 H) (Λ : Loops 𝓤 H) (fm : FmC 𝓤 H (W .laws) C) (known : Triple 𝓤 (C #next) (Next 𝓤 H A at-mem run)) where
     walk : Known c → Goes instants (lists c) h → ent 𝓤 (onEntry 𝓤 H A advance.signature κs qs a at) (WpFn 𝓤 H C Λ code.function (slice (c .starts) ∷ slice (c .ends) ∷ slice (c .values) ∷ vptr b o ∷ []) Post)
@@ -143,13 +157,13 @@ module _ {M : Type 1} (𝓤 : URA M) (H : Heap 𝓤) (A : Atoms 𝓤) (W : Given
         peeks ! B.the-row (Is B.the-row) (shows 𝓤 H A B.the-row) r (u ∷ []) (λ is. drop ! $
         -- [the tokens; the columns; the sweep's cell; the open borrow; obs; auth; _6; …; room for _5; …; _4; …; _3; …; _2; …; _1; …; room for _0; …]
         land ! (from ! (stop !)) (init ! 8 refl (struct.lawful B.the-type B′.the-laws 𝓤 H A W .typed r _ is .0)) $ rewrite ! 8 (λ (us : List Val). ‵ (fat fullShare B′.mir l₅ 0 (only us))) (struct.tells B.the-type B′.the-laws r (u ∷ []) is) refl $
-        assigns ! (of-opd ! (load ! (from ! (fld ! refl (stop !))) (look-in ! 8 (sub ! 1 refl (whole !))))) (from ! (hop ! (look ! 10 refl) (stop !))) (store-raw ! 2 refl (struct.lawful T.the-type T′.the-laws 𝓤 H A W .typed (r .sweep) _ (sweep-is r u is) .0)) $
-        assigns ! (of-opd ! (load ! (from ! (fld ! refl (stop !))) (look-in ! 8 (sub ! 0 refl (whole !))))) (from ! (stop !)) (init ! 18 refl (enum.lawful E.the-type E′.the-laws 𝓤 H A W tt .typed (r .taken) _ (taken-is r u is) .0)) $
-        owned ! T.the-row (Is T.the-row) (struct.makes T.the-type T′.the-plain 𝓤 H A) (r .sweep) _ (sweep-is r u is) $ move ! (3 ∷ 0 ∷ 4 ∷ 5 ∷ 6 ∷ []) $ closes ! tt T.the-row (r .sweep) (sweep-val (r .sweep) ∷ []) b o $
+        assigns ! (of-opd ! (load ! (from ! (fld ! refl (stop !))) (look-in ! 8 (sub ! 1 refl (whole !))))) (from ! (hop ! (look ! 10 refl) (stop !))) (store-raw ! 2 refl (struct.lawful T.the-type T′.the-laws 𝓤 H A W .typed (stored r) _ (stored-is was r u is) .0)) $
+        assigns ! (of-opd ! (load ! (from ! (fld ! refl (stop !))) (look-in ! 8 (sub ! 0 refl (whole !))))) (from ! (stop !)) (init ! 18 refl (enum.lawful E.the-type E′.the-laws 𝓤 H A W tt .typed (answered r) _ (answered-is r u is) .0)) $
+        owned ! T.the-row (Is T.the-row) (struct.makes T.the-type T′.the-plain 𝓤 H A) (stored r) _ (stored-is was r u is) $ move ! (3 ∷ 0 ∷ 4 ∷ 5 ∷ 6 ∷ []) $ closes ! tt T.the-row (stored r) (sweep-val (stored r) ∷ []) b o $
         -- [obs; the borrow; the sweep's token; the tokens; the columns; _6; …; _5; …; _4; …; _3; …; _2; …; _1; …; _0; …]
         returns ! (look ! 17 refl) $ forget ! 5 refl $ forget ! 7 refl $ forget ! 9 refl $ forget ! 11 refl $ forget ! 13 refl $ forget ! 15 refl $ forget ! 17 refl $
         move ! (17 ∷ 18 ∷ []) $ free1 ! $ move ! (15 ∷ 16 ∷ []) $ free1 ! $ move ! (13 ∷ 14 ∷ []) $ free1 ! $ move ! (11 ∷ 12 ∷ []) $ free1 ! $ move ! (9 ∷ 10 ∷ []) $ free1 ! $ move ! (7 ∷ 8 ∷ []) $ free1 ! $ move ! (5 ∷ 6 ∷ []) $ free1 ! $ free0 ! $
-        by ! (exits r u is went))))))))))))))
+        by ! (exits (answered r) (stored r) (answered-is r u is) went))))))))))))))
 
 module _ {M : Type 1} (𝓤 : URA M) (H : Heap 𝓤) (A : Atoms 𝓤) (W : Given 𝓤 H A) (at-mem : Memory → SProp 𝓤) (run : Routine → Fun 𝓤) where
   walks : (C : Calls 𝓤 H) (Λ : Loops 𝓤 H) → FmC 𝓤 H (W .laws) C → Triple 𝓤 (C #next) (Next 𝓤 H A at-mem run) → Walks 𝓤 H A advance.ended stayed (WpFn 𝓤 H C Λ code.function) (advance.clauses 𝓤 H A at-mem run)
