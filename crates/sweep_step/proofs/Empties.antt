@@ -1,6 +1,6 @@
 -- A sweep that is lent and drained gives the events of its lists, all of them, in their order. Assumes nothing.
 use mathlib.Core.Path.{_≡_, refl}
-use mathlib.Core.List.{List, [], _∷_}
+use mathlib.Core.List.{List}
 use lib.IntN.{ℤ}
 use Rattle.rules.specs.Lists.{Width, Lent}
 use Rattle.rules.specs.Refusals.{Formed}
