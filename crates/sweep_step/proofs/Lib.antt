@@ -1,0 +1,4 @@
+pub mod Machine
+pub mod Columns
+pub mod Empties
+pub mod Ruled
