@@ -21,6 +21,10 @@ or-sound : (j : Judgement) → or-else j Sound ≡ j
 or-sound Sound = refl
 or-sound (Refused a) = refl
 
+-- a range is known by its start and end
+pub same-look : (l : Look) (x : Piece ℕ) {s e : ℕ} → s ≡ x .start → e ≡ x .end → {r : Look} → r ≡ looked l (record { start = s; end = e; value = x .value }) → r ≡ looked l x
+same-look l x p q h = rw (h, p, q)
+
 module _ {T : Type 0} (start end : T → ℕ) (xs : List T) where
   abbrev whole : Judgement
   whole = judge-list none (placed start end 0 xs)
