@@ -3,11 +3,15 @@
 use form::Prior;
 use form::Range;
 use form::judge_range;
+use rules::Answer;
 use rules::Judgement;
+use rules::code;
+use rules::number as number_of;
 ghost use mathlib.Core.Path.{_≡_};
 ghost use Prim.Native.Nat.{_<_};
 ghost use Rattle.form.specs.Shape.{piece};
 ghost use Rattle.tariffs.specs.Looks.{unlooked, looked, after};
+ghost use Rattle.tariffs.specs.Told.{answer-of, Told};
 
 // What is found up to a place of a list: the end of the range before, and the judgement.
 pub struct Look {
@@ -52,4 +56,23 @@ pub fn found(look: Look) -> Judgement
     ensures { λ r. ⌜ r ≡ look .found ⌝ }
 {
     look.found
+}
+
+// A list without fault is done, with nothing written.
+fn answer_of(found: Judgement) -> Answer
+    ensures { λ r. ⌜ r ≡ answer-of found ⌝ }
+{
+    match found {
+        Judgement::Sound => Answer::Done(0),
+        Judgement::Refused(answer) => answer,
+    }
+}
+
+// What is found as a C function tells it: the code comes back, and the number is written.
+pub fn tell(found: Judgement, number: &mut u64) -> u8
+    ensures { λ r. ⌜ Told found r (now (number .exit)) ⌝ }
+{
+    let answer = answer_of(found);
+    *number = number_of(answer) as u64;
+    code(answer)
 }
