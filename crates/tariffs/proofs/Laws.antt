@@ -17,7 +17,7 @@ use Rattle.tariffs.specs.Placed.{placed}
 use Rattle.tariffs.specs.Looks.{unlooked, looked, after}
 use Rattle.tariffs.specs.declared.Look.{Look}
 
-or-sound : (j : Judgement) → or-else j Sound ≡ j
+pub or-sound : (j : Judgement) → or-else j Sound ≡ j
 or-sound Sound = refl
 or-sound (Refused a) = refl
 
