@@ -20,7 +20,7 @@ use Rattle.tariffs.proofs.Laws.{or-sound}
 
 module _ {P T : Type 0} (w : Width P) (s e : T → P) where
   abbrev pub pieces-from : ℕ → List T → List (Piece ℕ)
-  pieces-from i ys = placed (λ t. w .key (s t)) (λ t. w .key (e t)) i ys
+  pieces-from i ys = placed (λ t i. record { start = w .key (s t); end = w .key (e t); value = i }) i ys
 
   by-place : (f g : ℕ → ℕ) (i : ℕ) (ys : List T) → ((k : ℕ) → f (k + i) ≡ keys w (map s ys) k) → ((k : ℕ) → g (k + i) ≡ keys w (map e ys) k) → ranges f g (λ j. j) i (length ys) ≡ pieces-from i ys
   by-place f g i [] a b = refl

@@ -25,13 +25,13 @@ or-sound (Refused a) = refl
 pub same-look : (l : Look) (x : Piece ℕ) {s e : ℕ} → s ≡ x .start → e ≡ x .end → {r : Look} → r ≡ looked l (record { start = s; end = e; value = x .value }) → r ≡ looked l x
 same-look l x p q h = rw (h, p, q)
 
-module _ {T : Type 0} (start end : T → ℕ) (xs : List T) where
+module _ {T : Type 0} (piece : T → ℕ → Piece ℕ) (xs : List T) where
   abbrev whole : Judgement
-  whole = judge-list none (placed start end 0 xs)
+  whole = judge-list none (placed piece 0 xs)
 
   -- what the ranges from place i on tell after what is kept
   abbrev from : Look → ℕ → Judgement
-  from l i = or-else (l .found) (judge-list (ended (l .prior)) (placed start end i (drop i xs)))
+  from l i = or-else (l .found) (judge-list (ended (l .prior)) (placed piece i (drop i xs)))
 
   -- what holds where place i is looked at next
   pub record Still (l : Look) (i : ℕ) : Type 0 where
@@ -51,7 +51,7 @@ module _ {T : Type 0} (start end : T → ℕ) (xs : List T) where
   -- one range is judged, and the place moves on
   module _ (d : T) {l : Look} {i : ℕ} (s : Still l i) (h : i < length xs) where
     abbrev here : Piece ℕ
-    here = record { start = start (getD xs i d); end = end (getD xs i d); value = i }
+    here = piece (getD xs i d) i
 
     opened : from l i ≡ from (looked l here) (i + 1)
     opened = rw (drop-cons xs i d h, s .sound h, add-one)

@@ -116,7 +116,7 @@ abbrev vals : Tariff → List Val
 vals t = LL.vals T.the-type T′.the-laws t
 
 abbrev Kept : List Tariff → Look → ℕ → Type 0
-Kept ys l i = Still (λ t. seats .key (t .start)) (λ t. seats .key (t .end)) ys l i
+Kept ys l i = Still piece ys l i
 
 -- where a turn begins: the place to look at, and what is kept, with its machine value
 record Turn (ys : List Tariff) : Type 0 where
@@ -269,7 +269,7 @@ module _ {M : Type 1} (𝓤 : URA M) (H : Heap 𝓤) (A : Atoms 𝓤) (W : Given
           returns ! (look ! 14 refl) $ forget ! 4 refl $ forget ! 6 refl $ forget ! 8 refl $ forget ! 10 refl $ forget ! 12 refl $ forget ! 14 refl $
           move ! (14 ∷ 15 ∷ []) $ free1 ! $ move ! (12 ∷ 13 ∷ []) $ free1 ! $ move ! (10 ∷ 11 ∷ []) $ free1 ! $ move ! (8 ∷ 9 ∷ []) $ free1 ! $
           move ! (6 ∷ 7 ∷ []) $ free1 ! $ move ! (4 ∷ 5 ∷ []) $ free1 ! $ move ! (2 ∷ 3 ∷ []) $ free1 ! $ free1 ! $ free0 ! $
-          by ! (exits r v (e ∙ ends _ _ ys (t .still) past) is)))
+          by ! (exits r v (e ∙ ends piece ys (t .still) past) is)))
 
       -- a turn that looks at one range
       more : (t : Turn ys) → t .place < n → Sq W (At t) (runs C Λ En part.turn-1 (anyQ (Turned t)))
@@ -299,7 +299,7 @@ module _ {M : Type 1} (𝓤 : URA M) (H : Heap 𝓤) (A : Atoms 𝓤) (W : Given
           told ! tt usize w (Nexted 𝓤 H A mem″ run m (t .place) n) (λ k. k ≡ after (m .found) (t .place) n) (nexted 𝓤 H A mem″ run m (t .place) n) (id⊢ 𝓤 _) (λ k ek isk.
           land-last ! (from ! (stop !)) (store ! 10 refl (uint-lawful 𝓤 H A W w64 .typed k _ isk .0)) $
           rewrite ! 10 (λ (z : Val). ‵ (fat fullShare word l₃ 0 z)) (ap only (isk .0)) refl $ forget ! 2 refl $ forget ! 4 refl $ forget ! 6 refl $ forget ! 8 refl $
-          let s = goes-on _ _ ys absent (t .still) less em ek in
+          let s = goes-on piece ys absent (t .still) less em ek in
           move ! (2 ∷ 3 ∷ 4 ∷ 5 ∷ 6 ∷ 7 ∷ 8 ∷ 9 ∷ 10 ∷ 11 ∷ 12 ∷ 13 ∷ 14 ∷ 15 ∷ 16 ∷ 17 ∷ 0 ∷ 18 ∷ 19 ∷ 1 ∷ []) $
           again ! (Nearer ys) At t (record { place = k; kept = m; mach = v; is = ism; still = s .0 }) (s .1)))))))
         where
@@ -333,7 +333,7 @@ module _ {M : Type 1} (𝓤 : URA M) (H : Heap 𝓤) (A : Atoms 𝓤) (W : Given
           -- [_7; …; _0; …; the token; what list owns]
           move ! (17 ∷ []) $ fsplit ! $ fsplit ! $ move ! (1 ∷ []) $ fsplit ! $ move ! (20 ∷ []) $ split ! $
           keep ! (6 ∷ 7 ∷ 8 ∷ 9 ∷ 10 ∷ 11 ∷ 12 ∷ 13 ∷ 14 ∷ 15 ∷ 16 ∷ 17 ∷ 18 ∷ 19 ∷ 20 ∷ 21 ∷ 0 ∷ 4 ∷ 2 ∷ 3 ∷ []) $
-          by ! (looped (record { place = 0; kept = r; mach = v; is = is; still = subst (λ (l : Look). Kept ys l 0) (sym e) (begins _ _ ys) }))))
+          by ! (looped (record { place = 0; kept = r; mach = v; is = is; still = subst (λ (l : Look). Kept ys l 0) (sym e) (begins piece ys) }))))
 
     walk : ent 𝓤 (onEntry 𝓤 H A judged.signature (κ, tt) (q, tt) (x, tt) at) (WpFn 𝓤 H C Λ function (sliceVal (b, o) n ∷ []) Post)
     walk =
