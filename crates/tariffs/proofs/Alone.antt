@@ -6,12 +6,11 @@ use mathlib.Core.List.{List, [], _∷_, map}
 use native.Mathlib.Nat.{add-zero, zero-add, add-suc, suc-add}
 use native.Mathlib.Omega.{arith}
 use lib.IntN.{ℤ}
-use lib.ListN.{length, getD, length-map}
+use lib.ListN.{length, length-map}
 use borrow.Author.Tests.{le-ltb, eq-eqb}
 use Rattle.rules.specs.Piece.{Piece, WellFormed}
-use Rattle.rules.specs.Lists.{Width, Lent, keys, ranges}
-use Rattle.rules.specs.Answer.{or-else, judge-list, judge}
-use Rattle.rules.specs.declared.Judgement.{Judgement}
+use Rattle.rules.specs.Lists.{Width, keys, ranges}
+use Rattle.rules.specs.Answer.{judge-list, judge}
 use Rattle.rules.specs.declared.Judgement.the-variants.{Sound}
 use Rattle.rules.specs.declared.Kind.the-variants.{Listing}
 use Rattle.rules.proofs.Faults.{all-clear, all-formed}
