@@ -38,7 +38,9 @@ extern "C" {
 #define GUINEATWIRL_MAX_PIECES 4095
 #define GUINEATWIRL_MAX_EVENTS 4096
 
-/* Bytes of stack that are enough for a call, measured and rounded up: the event listing, a two-way join, a many-way join or selection. */
+/* Bytes of stack that are enough for a call, measured and rounded up: a check of one list, the event listing, a two-way join, a
+   many-way join or selection. */
+#define GUINEATWIRL_STACK_CHECK 256
 #define GUINEATWIRL_STACK_LISTING 2048
 #define GUINEATWIRL_STACK_TWO_WAY 1024
 #define GUINEATWIRL_STACK_MULTIWAY 4096
@@ -51,7 +53,7 @@ extern "C" {
 /* What a call answers. Where several are due, the first of 1, 2, 4, 3, 7, then the first range that is wrong (5 before 6), then 8. The
    number is 0 unless another is named. The place of a range is counted from 0 through all lists. */
 enum guineatwirl_code {
-    GUINEATWIRL_DONE = 0,             /* number: the pieces or events written */
+    GUINEATWIRL_DONE = 0,             /* number: the pieces or events written; 0 of a check */
     GUINEATWIRL_TOO_MANY_LISTS = 1,
     GUINEATWIRL_NOT_TWO_LISTS = 2,    /* of two-way joins only */
     GUINEATWIRL_TOO_MANY_RANGES = 3,
@@ -118,6 +120,17 @@ static inline const char *guineatwirl_words(uint8_t code) {
    columns of one length in structs; its name is the long one's without multiway_ and _join, and listing for list_events. */
 
 /* -- seats -- */
+
+/* One range of a list with its value. An array of them takes 12 bytes for each. */
+typedef struct {
+    uint32_t start;
+    uint32_t end;
+    int32_t value;
+} guineatwirl_seat_tariff;
+
+/* Checks one list as it is typed, before any join: GUINEATWIRL_DONE, or what is wrong with its first faulty range, whose place is the
+   number. The list may have any length; more than GUINEATWIRL_MAX_RANGES ranges cannot be joined. */
+uint8_t guineatwirl_seat_check_list(const guineatwirl_seat_tariff *list, size_t list_len, uint64_t *number);
 
 typedef struct {
     const uint32_t *starts;
@@ -271,6 +284,17 @@ static inline uint8_t guineatwirl_seat_symmetric_difference(
 }
 
 /* -- instants -- */
+
+/* One range of a list with its value. An array of them takes 24 bytes for each. */
+typedef struct {
+    int64_t start;
+    int64_t end;
+    int32_t value;
+} guineatwirl_instant_tariff;
+
+/* Checks one list as it is typed, before any join: GUINEATWIRL_DONE, or what is wrong with its first faulty range, whose place is the
+   number. The list may have any length; more than GUINEATWIRL_MAX_RANGES ranges cannot be joined. */
+uint8_t guineatwirl_instant_check_list(const guineatwirl_instant_tariff *list, size_t list_len, uint64_t *number);
 
 typedef struct {
     const int64_t *starts;

@@ -1,6 +1,7 @@
-/* What a C caller can get wrong in columns and lengths, what the short forms pass on, and the header's codes and limits. Prints what is
-   not as it must be. */
+/* What a C caller can get wrong in columns and lengths, what the short forms pass on, how an array of structs lies, and the header's codes
+   and limits. Prints what is not as it must be. */
 #include "c_width.h"
+#include <stddef.h>
 #include <stdio.h>
 #include <string.h>
 
@@ -224,7 +225,42 @@ static void most(void) {
     done("union", OF(union)(&lists, &pieces, &number), 1);
 }
 
+static void checked(const char *name, int code, int number_due, const OF(tariff) *list_typed, size_t length) {
+    number = 99;
+    expect(name, code, OF(check_list)(list_typed, length, &number));
+    expect(name, number_due, (long long)number);
+}
+
+/* An array of structs lies as the library reads it: each field where it is expected, and no other room than at the end. */
+static void typed(void) {
+    expect("size of a tariff", 3 * POINT_SIZE, (long long)sizeof(OF(tariff)));
+    expect("place of its start", 0, (long long)offsetof(OF(tariff), start));
+    expect("place of its end", POINT_SIZE, (long long)offsetof(OF(tariff), end));
+    expect("place of its value", 2 * POINT_SIZE, (long long)offsetof(OF(tariff), value));
+    static OF(tariff) tariffs[MANY];
+    for (int i = 0; i < MANY; i++) {
+        tariffs[i].start = (point)(2 * i);
+        tariffs[i].end = (point)(2 * i + 1);
+        tariffs[i].value = -i;
+    }
+    checked("no ranges", GUINEATWIRL_DONE, 0, NULL, 0);
+    checked("one range", GUINEATWIRL_DONE, 0, tariffs, 1);
+    checked("ranges that touch, more than can be joined", GUINEATWIRL_DONE, 0, tariffs, MANY);
+    tariffs[MANY - 1].start = (point)(2 * MANY - 3);
+    checked("overlap at the last", GUINEATWIRL_OVERLAP, MANY - 1, tariffs, MANY);
+    checked("overlap left out", GUINEATWIRL_DONE, 0, tariffs, MANY - 1);
+    tariffs[7].end = tariffs[7].start;
+    checked("one point", GUINEATWIRL_OVERLAP, MANY - 1, tariffs, MANY);
+    tariffs[7].end = tariffs[6].start;
+    checked("backward before overlap", GUINEATWIRL_BACKWARD, 7, tariffs, MANY);
+    tariffs[3] = tariffs[2];
+    checked("overlap before backward", GUINEATWIRL_OVERLAP, 3, tariffs, MANY);
+    tariffs[0].start = 9;
+    checked("backward at the first", GUINEATWIRL_BACKWARD, 0, tariffs, 1);
+}
+
 int main(void) {
+    typed();
     short_forms();
     long_form("list_events", list_events, 8, 4);
     long_form("two_way_inner_join", two_way_inner_join, 9, 1);

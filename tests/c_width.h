@@ -5,8 +5,10 @@
 typedef int64_t point;
 #define OF(name) guineatwirl_instant_##name
 #define WIDTH "instant"
+#define POINT_SIZE 8
 #else
 typedef uint32_t point;
 #define OF(name) guineatwirl_seat_##name
 #define WIDTH "seat"
+#define POINT_SIZE 4
 #endif

@@ -91,6 +91,7 @@ fn run_width<T: Proved>(plan: Plan) -> Result<u64, String> {
         all += count;
         covered.add(proved);
     }
+    all += crate::one_list::run::<T>(plan.seed)?;
     match covered.missing() {
         Some((operation, code)) => {
             Err(format!("the library never refused {operation} of {width} with code {code}"))

@@ -18,6 +18,7 @@ pub mod coverage;
 pub mod faults;
 pub mod file;
 pub mod generator;
+pub mod one_list;
 pub mod random;
 pub mod rattle_side;
 pub mod reading;

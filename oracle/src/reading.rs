@@ -51,7 +51,8 @@ pub fn refusal<T: Point>(operation: Operation, lent: &Lent<T>) -> Option<Answer>
     first_faulty_range(lent)
 }
 
-fn first_faulty_range<T: Point>(lent: &Lent<T>) -> Option<Answer> {
+/// The first range that is wrong by itself or after the one before it in its list.
+pub fn first_faulty_range<T: Point>(lent: &Lent<T>) -> Option<Answer> {
     for places in lent.list_places() {
         for place in places.clone() {
             if lent.starts[place] > lent.ends[place] {

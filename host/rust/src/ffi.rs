@@ -7,7 +7,10 @@
 
 #![allow(unsafe_code)]
 
-use crate::{EventColumns, LentLists, PairColumns, PieceColumns};
+use crate::{EventColumns, LentLists, PairColumns, PieceColumns, Tariff};
+
+// A slice of tariffs is lent as it lies: as the C structs do.
+const _: () = assert!(size_of::<Tariff<u32>>() == 12 && size_of::<Tariff<i64>>() == 24);
 
 /// What a C function answers: the code and number of the rules.
 #[derive(Clone, Copy, Debug, PartialEq, Eq)]
@@ -18,6 +21,7 @@ pub struct Answer {
 
 /// The functions of one width. They answer as the library does, and write what it writes.
 pub trait Functions: Sized {
+    fn check_list(list: &[Tariff<Self>]) -> Answer;
     fn list_events(lists: LentLists<'_, Self>, out: &mut EventColumns<'_, Self>) -> Answer;
     fn two_way_inner_join(lists: LentLists<'_, Self>, out: &mut PairColumns<'_, Self>) -> Answer;
     fn two_way_left_join(lists: LentLists<'_, Self>, out: &mut PairColumns<'_, Self>) -> Answer;
@@ -42,10 +46,11 @@ pub trait Functions: Sized {
 /// Declares the C functions of one width, by what they write.
 macro_rules! declare {
     (
-        $point:ty; events: $($events:ident)*; pairs: $($pairs:ident)*; joins: $($joins:ident)*;
-        selections: $($selections:ident)*
+        $point:ty; checks: $($checks:ident)*; events: $($events:ident)*; pairs: $($pairs:ident)*;
+        joins: $($joins:ident)*; selections: $($selections:ident)*
     ) => {
         unsafe extern "C" {
+            $(fn $checks(list: *const Tariff<$point>, list_len: usize, number: *mut u64) -> u8;)*
             $(fn $events(
                 starts: *const $point, starts_len: usize, ends: *const $point, ends_len: usize,
                 values: *const i32, values_len: usize, counts: *const u32, counts_len: usize,
@@ -107,17 +112,25 @@ macro_rules! call {
 macro_rules! functions {
     (
         $point:ty;
+        checks: $($checks:ident = $c_checks:ident)*;
         events: $($events:ident = $c_events:ident)*;
         pairs: $($pairs:ident = $c_pairs:ident)*;
         joins: $($joins:ident = $c_joins:ident)*;
         selections: $($selections:ident = $c_selections:ident)*
     ) => {
         declare!(
-            $point; events: $($c_events)*; pairs: $($c_pairs)*; joins: $($c_joins)*;
-            selections: $($c_selections)*
+            $point; checks: $($c_checks)*; events: $($c_events)*; pairs: $($c_pairs)*;
+            joins: $($c_joins)*; selections: $($c_selections)*
         );
 
         impl Functions for $point {
+            $(fn $checks(list: &[Tariff<Self>]) -> Answer {
+                let mut number = 0;
+                // Sound: the pointer goes with the length of the slice, whose structs lie as those
+                // of C do. The C function reads within the length, and keeps no pointer.
+                let code = unsafe { $c_checks(list.as_ptr(), list.len(), &mut number) };
+                Answer { code, number }
+            })*
             $(fn $events(lists: LentLists<'_, Self>, out: &mut EventColumns<'_, Self>) -> Answer {
                 call!($c_events, lists, [out.kinds, out.points, out.lists, out.values])
             })*
@@ -143,6 +156,8 @@ macro_rules! functions {
 
 functions! {
     u32;
+    checks:
+        check_list = guineatwirl_seat_check_list;
     events:
         list_events = guineatwirl_seat_list_events;
     pairs:
@@ -159,6 +174,8 @@ functions! {
 
 functions! {
     i64;
+    checks:
+        check_list = guineatwirl_instant_check_list;
     events:
         list_events = guineatwirl_instant_list_events;
     pairs:

@@ -28,8 +28,8 @@
 //! draws them.
 //!
 //! A list is well formed where no range starts beyond its end, and each starts beyond the end of
-//! the one before it. Ranges may touch. Lists and the ranges in them are counted from 0. No call
-//! panics: whatever is wrong with what is lent comes back as a [`Refusal`].
+//! the one before it; [`check`] tells of one list as it is typed. Ranges may touch. Lists and the
+//! ranges in them are counted from 0. No call panics: whatever is wrong with what is lent comes back as a [`Refusal`].
 //!
 //! To link the library, `GUINEATWIRL_LIBRARY` names the folder of its archive, `libguineatwirl.a`,
 //! when the package is built. `tools/host_library` builds it, in `target/host`.
@@ -57,7 +57,7 @@ pub use pieces::{Event, Pair, Piece};
 pub use point::Point;
 pub use refusal::{Place, Refusal};
 pub use whole::{
-    list_events, multiway_full_join, multiway_inner_join, multiway_symmetric_difference,
+    check, list_events, multiway_full_join, multiway_inner_join, multiway_symmetric_difference,
     multiway_union, two_way_full_join, two_way_inner_join, two_way_left_join,
 };
 

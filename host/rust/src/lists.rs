@@ -10,7 +10,10 @@ use crate::{MOST_PIECES, Place, Point};
 /// let stalls = Tariff::new(1_u32..=100, 4500);
 /// assert_eq!(stalls, Tariff { start: 1, end: 100, value: 4500 });
 /// ```
+///
+/// It lies as the C struct of its width does, so that [`check`](crate::check) copies nothing.
 #[derive(Clone, Copy, Debug, PartialEq, Eq, Hash)]
+#[repr(C)]
 pub struct Tariff<P> {
     /// The first point of the range.
     pub start: P,

@@ -156,6 +156,19 @@ impl Refusal {
             .unwrap_or(Self::Unforeseen { code, number })
     }
 
+    /// What was answered other than that all is well, of one list with so many ranges.
+    #[cold]
+    pub(crate) fn of_list(answer: Answer, ranges: usize) -> Self {
+        let Answer { code, number } = answer;
+        let range = usize::try_from(number).ok().filter(|&range| range < ranges);
+        let place = range.map(|range| Place { list: 0, range, index: range });
+        match (code, place) {
+            (5, Some(place)) => Self::BackwardRange(place),
+            (6, Some(place)) => Self::OverlappingRange(place),
+            _ => Self::Unforeseen { code, number },
+        }
+    }
+
     /// The refusal of that code, if there is one.
     fn expected<P: Point>(
         answer: Answer,
@@ -249,6 +262,19 @@ mod tests {
                     let refusal = refusal(code, number, combiner);
                     assert_eq!((refusal.code(), refusal.number()), (code, number));
                 }
+            }
+        }
+    }
+
+    #[test]
+    fn keeps_every_answer_of_one_list() {
+        for code in 0..=u8::MAX {
+            for number in [0, 1, 2, 3, u64::MAX] {
+                let refusal = Refusal::of_list(Answer { code, number }, 3);
+                assert_eq!((refusal.code(), refusal.number()), (code, number));
+                let faulty =
+                    matches!(refusal, Refusal::BackwardRange(_) | Refusal::OverlappingRange(_));
+                assert_eq!(faulty, matches!(code, 5 | 6) && number < 3);
             }
         }
     }

@@ -1,9 +1,37 @@
 //! The operations from lists of tariffs to vectors of pieces.
 
+use crate::ffi::Answer;
 use crate::{
     Combiner, Event, EventColumns, LentLists, Lists, Pair, PairColumns, Piece, PieceColumns, Point,
     Refusal, Tariff, lent,
 };
+
+/// Checks one list as it is typed, before any join: whether no range starts beyond its end, and each
+/// starts beyond the end of the one before it. Nothing is copied. The list may have any length; one
+/// of more than [`MOST_RANGES`](crate::MOST_RANGES) ranges cannot be joined.
+///
+/// # Errors
+///
+/// [`Refusal::BackwardRange`] or [`Refusal::OverlappingRange`], of the first faulty range. The list
+/// is list 0 there.
+///
+/// ```
+/// use guineatwirl::{Place, Refusal, Tariff, check};
+///
+/// let mut typed = [Tariff::new(1_u32..=100, 4500), Tariff::new(101..=180, 3000)];
+/// assert_eq!(check(&typed), Ok(()));
+///
+/// // A slip: seat 100 is in both ranges.
+/// typed[1].start = 100;
+/// let place = Place { list: 0, range: 1, index: 1 };
+/// assert_eq!(check(&typed), Err(Refusal::OverlappingRange(place)));
+/// ```
+pub fn check<P: Point>(list: &[Tariff<P>]) -> Result<(), Refusal> {
+    match P::check_list(list) {
+        Answer { code: 0, number: 0 } => Ok(()),
+        answer => Err(Refusal::of_list(answer, list.len())),
+    }
+}
 
 /// Lists the events: every start and every end of a range, ordered by point. At one point all
 /// starts come before all ends, and in each the lists come in order.

@@ -1,6 +1,8 @@
 //! Every refusal through lent columns: what it is, what it says, and that nothing is written.
 
-use guineatwirl::{LentLists, PairColumns, PieceColumns, Place, Point, Refusal, lent};
+use guineatwirl::{
+    LentLists, MOST_RANGES, PairColumns, PieceColumns, Place, Point, Refusal, Tariff, check, lent,
+};
 
 /// Two lists of two ranges and one.
 const SOUND: LentLists<'_, u32> =
@@ -86,6 +88,34 @@ fn overlapping_range() {
     let sentence =
         "range 1 of list 0 (counted from 0) does not start beyond the end of the range before it";
     assert_told(refused(1, lists, 9), expected, (6, 1), sentence);
+}
+
+/// What is told of one list, by structs; where the list can be joined, the columns tell the same.
+fn checked<P: Point>(list: &[Tariff<P>]) -> Result<(), Refusal> {
+    let told = check(list);
+    let columns = guineatwirl::list_events(&[list]).map(|_| ());
+    assert!(columns == told || list.len() > MOST_RANGES, "{columns:?} and {told:?}");
+    told
+}
+
+#[test]
+fn one_list_as_it_is_typed() {
+    let place = |range| Place { list: 0, range, index: range };
+    assert_eq!(checked::<u32>(&[]), Ok(()));
+    assert_eq!(checked(&[Tariff::new(u32::LEAST..=u32::GREATEST, 1)]), Ok(()));
+    let halves = [Tariff::new(i64::LEAST..=-1, 1), Tariff::new(0..=i64::GREATEST, 1)];
+    assert_eq!(checked(&halves), Ok(()));
+    let [below, above] = halves;
+    assert_eq!(checked(&[above, below]), Err(Refusal::OverlappingRange(place(1))));
+    let turned = Tariff { start: i64::GREATEST, end: i64::LEAST, value: 1 };
+    assert_eq!(checked(&[below, turned, above]), Err(Refusal::BackwardRange(place(1))));
+    assert_eq!(checked(&[turned, turned]), Err(Refusal::BackwardRange(place(0))));
+
+    let mut long: Vec<_> =
+        (0..=MOST_RANGES as u32).map(|seat| Tariff::new(seat..=seat, 1)).collect();
+    assert_eq!(checked(&long), Ok(()));
+    long[MOST_RANGES].start = 2047;
+    assert_eq!(checked(&long), Err(Refusal::OverlappingRange(place(MOST_RANGES))));
 }
 
 #[test]

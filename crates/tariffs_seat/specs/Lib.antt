@@ -1,0 +1,2 @@
+-- Tariff structs of seats as the rules see them. Assumes nothing.
+pub mod Pieces
