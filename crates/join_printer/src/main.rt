@@ -12,6 +12,11 @@ fn main() {
     let mut file: [u8; MOST] = [0; MOST];
     let mut text: [u8; ROOM] = [0; ROOM];
     let length = io::read_full(libc::STDIN_FILENO, &mut file);
+    let mut more: [u8; 1] = [0; 1];
+    if length < MOST && libc::read(libc::STDIN_FILENO, &mut more) < 0 {
+        os::fail(b"standard input");
+        return;
+    }
     let count = join_file(&file[..length], &mut text);
     if !io::write_all(libc::STDOUT_FILENO, &text[..count]) {
         os::fail(b"standard output");
