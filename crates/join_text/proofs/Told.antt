@@ -35,12 +35,16 @@ use Rattle.printed.specs.Printed.{merge-room, pair-room, told, paired-answer, m
 done : (r : Answered) → code-of r ≡ 0 → r ≡ Done (number-of r)
 done r h = sym (answer-told r) ∙ ap (λ (k : ℕ). answer-of k (number-of r)) h
 
--- told by the code
-told-done : (r : Answered) (f : ℕ → Answer) → code-of r ≡ 0 → told r f ≡ f (number-of r)
-told-done r f h = λ i. cond (eq-eqb (code-of r) 0 h i) (f (number-of r)) (text.refused (code-of r) (number-of r))
+-- an outcome is told by its code: the pieces that the columns have, or the refusal
+module _ {C : Type 0} (pieces : C → ℕ → Answer) (o : Outcome C) (r : Answered) (d : C) (e : leaves r d ≡ o) where
+  left : told (o .answer) (pieces (o .columns)) ≡ told r (pieces d)
+  left = ap (λ (x : Outcome C). told (x .answer) (pieces (x .columns))) (sym e)
 
-told-refused : (r : Answered) (f : ℕ → Answer) → code-of r ≢ 0 → told r f ≡ text.refused (code-of r) (number-of r)
-told-refused r f h = λ i. cond (ne-eqb (code-of r) 0 h i) (f (number-of r)) (text.refused (code-of r) (number-of r))
+  outcome-done : code-of r ≡ 0 → told (o .answer) (pieces (o .columns)) ≡ pieces d (number-of r)
+  outcome-done h = left ∙ (λ i. cond (eq-eqb (code-of r) 0 h i) (pieces d (number-of r)) (text.refused (code-of r) (number-of r)))
+
+  outcome-refused : code-of r ≢ 0 → told (o .answer) (pieces (o .columns)) ≡ text.refused (code-of r) (number-of r)
+  outcome-refused h = left ∙ (λ i. cond (ne-eqb (code-of r) 0 h i) (pieces d (number-of r)) (text.refused (code-of r) (number-of r)))
 
 -- as many pieces as there is room for
 within : {C : Type 0} (k : Kind) (l : Lent ℤ) (needed room : ℕ) (c a : C) (r : Answered) → settle (judge instants k l) needed room c a .answer ≡ r → code-of r ≡ 0 → number-of r ≤ room
@@ -59,20 +63,16 @@ module _ (o : Operation) (l : Lent ℤ) (d : Merged ℤ) (r : Answered) (e : lea
       omega (arith, room, within (kind-of o) l (length xs) (merged-columns.room merge-room) merge-room (merged-columns.lay instants 0 xs merge-room) r (ap (λ (x : Outcome (Merged ℤ)). x .answer) (sym e)) h)
 
   module _ (h : Head) where
-    abbrev merged-pieces : ℕ → Answer
-    merged-pieces n = text.merged (h .operation) (h .combiner) (length (l .counts)) (rows d n)
-
-    answers : merged-answer h o l ≡ told r merged-pieces
-    unfolding merged-answer
-    answers = ap (λ (x : Outcome (Merged ℤ)). told (x .answer) (λ n. text.merged (h .operation) (h .combiner) (length (l .counts)) (rows (x .columns) n))) (sym e)
+    abbrev merged-pieces : Merged ℤ → ℕ → Answer
+    merged-pieces m n = text.merged (h .operation) (h .combiner) (length (l .counts)) (rows m n)
 
     pub merged-done : code-of r ≡ 0 → answer (merged-answer h o l) ≡ merged-text (h .operation) (h .combiner) (length (l .counts)) d (number-of r)
-    unfolding merged-text
-    merged-done z = ap answer (answers ∙ told-done r merged-pieces z)
+    unfolding merged-answer merged-text
+    merged-done z = ap answer (outcome-done merged-pieces (merging instants o l merge-room) r d e z)
 
     pub merged-refused : code-of r ≢ 0 → answer (merged-answer h o l) ≡ refusal-text (code-of r) (number-of r)
-    unfolding refusal-text
-    merged-refused z = ap answer (answers ∙ told-refused r merged-pieces z)
+    unfolding merged-answer refusal-text
+    merged-refused z = ap answer (outcome-refused merged-pieces (merging instants o l merge-room) r d e z)
 
 -- a two-way operation
 module _ (p : Pairing) (l : Lent ℤ) (d : Paired ℤ) (r : Answered) (e : leaves r d ≡ pairing instants p l pair-room) where
@@ -84,17 +84,13 @@ module _ (p : Pairing) (l : Lent ℤ) (d : Paired ℤ) (r : Answered) (e : leave
       omega (arith, room, within TwoWay l (length xs) (paired-columns.room pair-room) pair-room (paired-columns.lay instants (λ i. getD (l .values) i (pos 0)) 0 xs pair-room) r (ap (λ (x : Outcome (Paired ℤ)). x .answer) (sym e)) h)
 
   module _ (h : Head) where
-    abbrev paired-pieces : ℕ → Answer
-    paired-pieces n = text.paired (h .operation) (h .combiner) (length (l .counts)) (pairs d n)
-
-    pair-answers : paired-answer h p l ≡ told r paired-pieces
-    unfolding paired-answer
-    pair-answers = ap (λ (x : Outcome (Paired ℤ)). told (x .answer) (λ n. text.paired (h .operation) (h .combiner) (length (l .counts)) (pairs (x .columns) n))) (sym e)
+    abbrev paired-pieces : Paired ℤ → ℕ → Answer
+    paired-pieces m n = text.paired (h .operation) (h .combiner) (length (l .counts)) (pairs m n)
 
     pub paired-done : code-of r ≡ 0 → answer (paired-answer h p l) ≡ paired-text (h .operation) (h .combiner) (length (l .counts)) d (number-of r)
-    unfolding paired-text
-    paired-done z = ap answer (pair-answers ∙ told-done r paired-pieces z)
+    unfolding paired-answer paired-text
+    paired-done z = ap answer (outcome-done paired-pieces (pairing instants p l pair-room) r d e z)
 
     pub paired-refused : code-of r ≢ 0 → answer (paired-answer h p l) ≡ refusal-text (code-of r) (number-of r)
-    unfolding refusal-text
-    paired-refused z = ap answer (pair-answers ∙ told-refused r paired-pieces z)
+    unfolding paired-answer refusal-text
+    paired-refused z = ap answer (outcome-refused paired-pieces (pairing instants p l pair-room) r d e z)

@@ -51,24 +51,6 @@ values-long h = front-within (λ x. x .value) (flat (lends h .lists)) (head-of h
 counts-long : (h : tie.After-contents2) → head-of h .lists ≤ length (columns (h .before .before) .counts)
 counts-long h = front-within length (lends h .lists) (head-of h .lists) (columns (h .before .before) .counts) (ap (λ (l : Lent ℤ). l .counts) (lends h .lent)) (lends h .all-lists)
 
-read-file-requires : tie.Need-read-file-requires
-read-file-requires c κs = search needs
-
-enum-known-contents : tie.Need-enum-known-contents
-enum-known-contents c = search needs
-
-refusal-code-requires : tie.Need-refusal-code-requires
-refusal-code-requires c κs = search needs
-
-refusal-number-requires : tie.Need-refusal-number-requires
-refusal-number-requires c κs = search needs
-
-print-refusal-requires : tie.Need-print-refusal-requires
-print-refusal-requires c κs = search needs
-
-enum-known-contents-2 : tie.Need-enum-known-contents-2
-enum-known-contents-2 c = search needs
-
 array-share-prefix-starts : tie.Need-array-share-prefix-starts
 array-share-prefix-starts c = let h : tie.After-contents2 = search in starts-long h
 
@@ -93,12 +75,7 @@ array-share-prefix-counts c = let h : tie.After-contents2 = search in counts-lon
 slice-aggregate-perform-4 : tie.Need-slice-aggregate-perform-4
 slice-aggregate-perform-4 c = let h : tie.After-contents2 = search in sym (length-take-le _ _ (counts-long h))
 
-perform-requires : tie.Need-perform-requires
-perform-requires c κs = search needs
-
-same-length : tie.Need-same-length
-same-length c = search needs
-
+-- the refusal of a file is printed
 returns : tie.Need-returns
 returns c =
     let r : tie.After-read-file = search in
@@ -112,9 +89,7 @@ returns c =
     ∙ ap (λ (t : List ℕ). print t (s .args .text .now)) ((λ i. refusal-text (k .refusal-code .ensures i) (n .refusal-number .ensures i)) ∙ sym (refusal-printed (s .args .file .now) (x .contents .given .0 .0) refused)) in
     (told, counts (printed (s .args .file .now)) (s .args .text .now) _ _ told)
 
-same-length-2 : tie.Need-same-length-2
-same-length-2 c = search needs
-
+-- what the operation answers is printed
 returns-2 : tie.Need-returns-2
 returns-2 c =
     let h : tie.After-contents2 = search in
@@ -132,12 +107,12 @@ pub join-file-spec : {M : Type 1} → statement M
 join-file-spec =
     tie.close
     (tie.spec
-    read-file-requires
-    enum-known-contents
-    refusal-code-requires
-    refusal-number-requires
-    print-refusal-requires
-    enum-known-contents-2
+    (λ c κs. search needs)
+    (λ c. search needs)
+    (λ c κs. search needs)
+    (λ c κs. search needs)
+    (λ c κs. search needs)
+    (λ c. search needs)
     array-share-prefix-starts
     slice-aggregate-perform
     array-share-prefix-ends
@@ -146,8 +121,8 @@ join-file-spec =
     slice-aggregate-perform-3
     array-share-prefix-counts
     slice-aggregate-perform-4
-    perform-requires
-    same-length
+    (λ c κs. search needs)
+    (λ c. search needs)
     returns
-    same-length-2
+    (λ c. search needs)
     returns-2)

@@ -30,30 +30,7 @@ left m = let l = m .merge-lists .last .1 .1 .1 .1 .1 in record { start = l .0; e
 merged : (m : tie.After-merge-lists) → leaves (m .merge-lists .result) (left m) ≡ merging instants (start-of m .args .asked) (lists (start-of m)) merge-room
 merged m = m .merge-lists .ensures
 
-slice-aggregate-merge-lists : tie.Need-slice-aggregate-merge-lists
-slice-aggregate-merge-lists c = search needs
-
-slice-aggregate-merge-lists-2 : tie.Need-slice-aggregate-merge-lists-2
-slice-aggregate-merge-lists-2 c = search needs
-
-slice-aggregate-merge-lists-3 : tie.Need-slice-aggregate-merge-lists-3
-slice-aggregate-merge-lists-3 c = search needs
-
-merge-lists-requires : tie.Need-merge-lists-requires
-merge-lists-requires c κs = search needs
-
-code-requires : tie.Need-code-requires
-code-requires c κs = search needs
-
-number-requires : tie.Need-number-requires
-number-requires c κs = search needs
-
-print-refusal-requires : tie.Need-print-refusal-requires
-print-refusal-requires c κs = search needs
-
-same-length : tie.Need-same-length
-same-length c = search needs
-
+-- a refusal is printed
 returns : tie.Need-returns
 returns c =
     let m : tie.After-merge-lists = search in
@@ -66,18 +43,7 @@ returns c =
     ((λ i. refusal-text (k .code .ensures i) (n .number .ensures i))
     ∙ sym (merged-refused (s .args .asked) (lists s) (left m) (m .merge-lists .result) (merged m) (head (s .args .operation) (s .args .combiner)) (omega (arith, k .code .ensures))))
 
-slice-aggregate-print-merged : tie.Need-slice-aggregate-print-merged
-slice-aggregate-print-merged c = search needs
-
-slice-aggregate-print-merged-2 : tie.Need-slice-aggregate-print-merged-2
-slice-aggregate-print-merged-2 c = search needs
-
-slice-aggregate-print-merged-3 : tie.Need-slice-aggregate-print-merged-3
-slice-aggregate-print-merged-3 c = search needs
-
-number-requires-2 : tie.Need-number-requires-2
-number-requires-2 c κs = search needs
-
+-- the columns have the pieces
 print-merged-requires : tie.Need-print-merged-requires
 print-merged-requires c κs =
     let m : tie.After-merge-lists = search in
@@ -89,9 +55,7 @@ print-merged-requires c κs =
     let kept = m .merge-lists .kept .1 .1 .1 .1 .1 in
     record { start = omega (arith, few, long, n .number2 .ensures, kept .0); end = omega (arith, few, long, n .number2 .ensures, kept .1 .0); value = omega (arith, few, long, n .number2 .ensures, kept .1 .1 .0) }
 
-same-length-2 : tie.Need-same-length-2
-same-length-2 c = search needs
-
+-- the pieces are printed
 returns-2 : tie.Need-returns-2
 returns-2 c =
     let m : tie.After-merge-lists = search in
@@ -108,19 +72,19 @@ pub join-many-spec : {M : Type 1} → statement M
 join-many-spec =
     tie.close
     (tie.spec
-    slice-aggregate-merge-lists
-    slice-aggregate-merge-lists-2
-    slice-aggregate-merge-lists-3
-    merge-lists-requires
-    code-requires
-    number-requires
-    print-refusal-requires
-    same-length
+    (λ c. search needs)
+    (λ c. search needs)
+    (λ c. search needs)
+    (λ c κs. search needs)
+    (λ c κs. search needs)
+    (λ c κs. search needs)
+    (λ c κs. search needs)
+    (λ c. search needs)
     returns
-    slice-aggregate-print-merged
-    slice-aggregate-print-merged-2
-    slice-aggregate-print-merged-3
-    number-requires-2
+    (λ c. search needs)
+    (λ c. search needs)
+    (λ c. search needs)
+    (λ c κs. search needs)
     print-merged-requires
-    same-length-2
+    (λ c. search needs)
     returns-2)

@@ -37,36 +37,7 @@ branch n = search
 abbrev coded : tie.After-number2 → tie.After-code
 coded n = search
 
-slice-aggregate-join-lists : tie.Need-slice-aggregate-join-lists
-slice-aggregate-join-lists c = search needs
-
-slice-aggregate-join-lists-2 : tie.Need-slice-aggregate-join-lists-2
-slice-aggregate-join-lists-2 c = search needs
-
-slice-aggregate-join-lists-3 : tie.Need-slice-aggregate-join-lists-3
-slice-aggregate-join-lists-3 c = search needs
-
-slice-aggregate-join-lists-4 : tie.Need-slice-aggregate-join-lists-4
-slice-aggregate-join-lists-4 c = search needs
-
-slice-aggregate-join-lists-5 : tie.Need-slice-aggregate-join-lists-5
-slice-aggregate-join-lists-5 c = search needs
-
-join-lists-requires : tie.Need-join-lists-requires
-join-lists-requires c κs = search needs
-
-code-requires : tie.Need-code-requires
-code-requires c κs = search needs
-
-number-requires : tie.Need-number-requires
-number-requires c κs = search needs
-
-print-refusal-requires : tie.Need-print-refusal-requires
-print-refusal-requires c κs = search needs
-
-same-length : tie.Need-same-length
-same-length c = search needs
-
+-- a refusal is printed
 returns : tie.Need-returns
 returns c =
     let m : tie.After-join-lists = search in
@@ -79,24 +50,7 @@ returns c =
     ((λ i. refusal-text (k .code .ensures i) (n .number .ensures i))
     ∙ sym (paired-refused (s .args .asked) (lists s) (left m) (m .join-lists .result) (joined m) (head (s .args .operation) (s .args .combiner)) (omega (arith, k .code .ensures))))
 
-slice-aggregate-print-paired : tie.Need-slice-aggregate-print-paired
-slice-aggregate-print-paired c = search needs
-
-slice-aggregate-print-paired-2 : tie.Need-slice-aggregate-print-paired-2
-slice-aggregate-print-paired-2 c = search needs
-
-slice-aggregate-print-paired-3 : tie.Need-slice-aggregate-print-paired-3
-slice-aggregate-print-paired-3 c = search needs
-
-slice-aggregate-print-paired-4 : tie.Need-slice-aggregate-print-paired-4
-slice-aggregate-print-paired-4 c = search needs
-
-slice-aggregate-print-paired-5 : tie.Need-slice-aggregate-print-paired-5
-slice-aggregate-print-paired-5 c = search needs
-
-number-requires-2 : tie.Need-number-requires-2
-number-requires-2 c κs = search needs
-
+-- the columns have the pieces
 print-paired-requires : tie.Need-print-paired-requires
 print-paired-requires c κs =
     let m : tie.After-join-lists = search in
@@ -115,9 +69,7 @@ print-paired-requires c κs =
       presence = omega (arith, few, short, n .number2 .ensures, kept .1 .1 .1 .1 .0);
     }
 
-same-length-2 : tie.Need-same-length-2
-same-length-2 c = search needs
-
+-- the pieces are printed
 returns-2 : tie.Need-returns-2
 returns-2 c =
     let m : tie.After-join-lists = search in
@@ -133,23 +85,23 @@ pub join-pairs-spec : {M : Type 1} → statement M
 join-pairs-spec =
     tie.close
     (tie.spec
-    slice-aggregate-join-lists
-    slice-aggregate-join-lists-2
-    slice-aggregate-join-lists-3
-    slice-aggregate-join-lists-4
-    slice-aggregate-join-lists-5
-    join-lists-requires
-    code-requires
-    number-requires
-    print-refusal-requires
-    same-length
+    (λ c. search needs)
+    (λ c. search needs)
+    (λ c. search needs)
+    (λ c. search needs)
+    (λ c. search needs)
+    (λ c κs. search needs)
+    (λ c κs. search needs)
+    (λ c κs. search needs)
+    (λ c κs. search needs)
+    (λ c. search needs)
     returns
-    slice-aggregate-print-paired
-    slice-aggregate-print-paired-2
-    slice-aggregate-print-paired-3
-    slice-aggregate-print-paired-4
-    slice-aggregate-print-paired-5
-    number-requires-2
+    (λ c. search needs)
+    (λ c. search needs)
+    (λ c. search needs)
+    (λ c. search needs)
+    (λ c. search needs)
+    (λ c κs. search needs)
     print-paired-requires
-    same-length-2
+    (λ c. search needs)
     returns-2)

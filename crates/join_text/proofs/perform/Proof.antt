@@ -18,27 +18,6 @@ lists s = record { starts = s .args .starts .now; ends = s .args .ends .now; val
 abbrev prints : tie.Start → Task → Print
 prints s t = print (answer (performed (head (s .args .operation) (s .args .combiner)) t (lists s))) (s .args .text .now)
 
-enum-known-task : tie.Need-enum-known-task
-enum-known-task c = search needs
-
-join-pairs-requires : tie.Need-join-pairs-requires
-join-pairs-requires c κs = search needs
-
-enum-known-task-2 : tie.Need-enum-known-task-2
-enum-known-task-2 c = search needs
-
-join-many-requires : tie.Need-join-many-requires
-join-many-requires c κs = search needs
-
-enum-known-task-3 : tie.Need-enum-known-task-3
-enum-known-task-3 c = search needs
-
-join-many-requires-2 : tie.Need-join-many-requires-2
-join-many-requires-2 c κs = search needs
-
-same-length : tie.Need-same-length
-same-length c = search needs
-
 returns : tie.Need-returns
 returns c =
     let s : tie.Start = search in
@@ -46,18 +25,12 @@ returns c =
     let j : tie.After-join-pairs = search in
     j .join-pairs .ensures ∙ ap (prints s) (sym (t .task .given .1))
 
-same-length-2 : tie.Need-same-length-2
-same-length-2 c = search needs
-
 returns-2 : tie.Need-returns-2
 returns-2 c =
     let s : tie.Start = search in
     let t : tie.After-task2 = search in
     let j : tie.After-join-many = search in
     j .join-many .ensures ∙ ap (prints s) (sym (t .task2 .given .1))
-
-same-length-3 : tie.Need-same-length-3
-same-length-3 c = search needs
 
 returns-3 : tie.Need-returns-3
 returns-3 c =
@@ -70,15 +43,15 @@ pub perform-spec : {M : Type 1} → statement M
 perform-spec =
     tie.close
     (tie.spec
-    enum-known-task
-    join-pairs-requires
-    enum-known-task-2
-    join-many-requires
-    enum-known-task-3
-    join-many-requires-2
-    same-length
+    (λ c. search needs)
+    (λ c κs. search needs)
+    (λ c. search needs)
+    (λ c κs. search needs)
+    (λ c. search needs)
+    (λ c κs. search needs)
+    (λ c. search needs)
     returns
-    same-length-2
+    (λ c. search needs)
     returns-2
-    same-length-3
+    (λ c. search needs)
     returns-3)
