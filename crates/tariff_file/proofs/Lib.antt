@@ -1,11 +1,10 @@
--- The laws of the tariff file: `Read`, `Longest` and `Given` have those of a file, `File` those of its records. `Number`, `Record`, `Sequence` and `Stops` know no format; `Places`, `Steps` and `Columns` are for the code.
+-- The laws of the tariff file: `Read`, `Longest` and `Given` have those of a file, `File` those of its records. `Number`, `Record`, `Sequence` and `Stops` know no format; `Places` and `Columns` are for the code.
 pub mod Number
 pub mod Sequence
 pub mod Record
 pub mod Stops
 pub mod File
 pub mod Places
-pub mod Steps
 pub mod Columns
 pub mod Read
 pub mod Longest

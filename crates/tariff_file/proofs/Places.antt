@@ -1,26 +1,20 @@
 -- For code that reads at a place of a slice: a number byte by byte, a record test by test, records in turn. Assumes nothing.
 use Prim.Native.Nat.{ℕ, zero, suc, _+_, _*_, _-_, _^_, _≤_, _<_}
-use mathlib.Core.Path.{_≡_, refl, sym, ap, subst, _∙_}
+use mathlib.Core.Path.{_≡_, refl, sym, ap, _∙_}
 use mathlib.Core.Logic.{_≢_}
 use mathlib.Core.Bool.{Bool, true, false, cond, _&&_}
 use mathlib.Core.List.{List, [], _∷_, _++_, append-assoc}
 use native.Mathlib.Omega.{arith}
 use native.Mathlib.Nat.{pow-suc}
 use native.Mathlib.Numerals.{add-one}
-use lib.Dec.{ltb, leb, eqb}
-use lib.IntN.{ℤ, pos, negsuc}
+use lib.Dec.{leb, eqb}
 use lib.ListN.{length, getD, take, drop, length-append, length-drop}
-use lib.Seq.{take-suc, drop-cons, drop-drop, getD-drop, drop-at}
+use lib.Seq.{take-suc, drop-cons, drop-drop, getD-drop}
 use borrow.Author.Tests.{leb-true, leb-false, le-leb, lt-leb, eq-eqb, ne-eqb}
-use mir.Syntax.{w32, w64}
-use mir.Val.{toZ, sel}
-use Rattle.many_way_rules.specs.Sheet.{flat}
-use Rattle.tariff_file.specs.Layout.{Bytes, number, integer, half, sizes, values, Layout, Held}
-use Rattle.tariff_file.specs.Reader.{Parsed, stop, got, Reader, Fault, judged, passed, follow, _then_, one, many}
+use Rattle.tariff_file.specs.Layout.{Bytes, number, sizes, values, Layout, Held}
+use Rattle.tariff_file.specs.Reader.{Parsed, stop, got, Reader, Fault, judged, follow, _then_, one, many}
 use Rattle.tariff_file.specs.declared.Refusal.{Refusal}
 use Rattle.tariff_file.specs.declared.Refusal.the-variants.{CutShort, WrongMark}
-use Rattle.tariff_file.specs.declared.Passed.the-variants.{Past, Stopped}
-use Rattle.tariff_file.proofs.Sequence.{Only}
 
 -- one more byte of a number
 number-snoc : (b : List ℕ) (x : ℕ) → number (b ++ (x ∷ [])) ≡ number b * 256 + x
@@ -40,23 +34,6 @@ number-more s k j h =
 pub number-start : (s : List ℕ) (k : ℕ) → number (take 0 (drop k s)) ≡ 0
 unfolding number
 number-start s k = refl
-
--- a cast to a signed type of n bytes reads two's complement
-pub cast64 : (x : ℕ) → integer 8 x ≡ toZ w64 x
-unfolding integer
-cast64 x = go (ltb x (half 8))
-  where
-    go : (t : Bool) → cond t (pos x) (negsuc (256 ^ 8 - suc x)) ≡ sel t (pos x) (negsuc (256 ^ 8 - suc x))
-    go true = refl
-    go false = refl
-
-pub cast32 : (x : ℕ) → integer 4 x ≡ toZ w32 x
-unfolding integer
-cast32 x = go (ltb x (half 4))
-  where
-    go : (t : Bool) → cond t (pos x) (negsuc (256 ^ 4 - suc x)) ≡ sel t (pos x) (negsuc (256 ^ 4 - suc x))
-    go true = refl
-    go false = refl
 
 -- the five ends of a record at a place
 module _ (l : Layout) (asked : Held l → Fault) (s : List ℕ) (at : ℕ) where
@@ -124,55 +101,10 @@ bytes-of s h zero = all s h
 bytes-of [] h (suc at) = tt
 bytes-of (x ∷ s) h (suc at) = bytes-of s (λ i. h (suc i)) at
 
--- what a reader found, from how it ended
-module _ {A : Type 0} where
-  pub ended : (r : Parsed A) (past : ℕ) → passed r ≡ Past past → (a : A) × (more : List ℕ) × (r ≡ got a past more)
-  ended (stop x) past e = absurd (let no : _≡_ {A = ℕ} 0 1 = cc in omega arith)
-  ended (got a at b) past e = let q : at ≡ past = cc in (a, b, ap (λ (k : ℕ). got a k b) q)
-
-  pub halted : (r : Parsed A) (x : Refusal) → passed r ≡ Stopped x → r ≡ stop x
-  halted (stop y) x e = let q : y ≡ x = cc in ap {B = Parsed A} stop q
-  halted (got a at b) x e = absurd (let no : _≡_ {A = ℕ} 0 1 = cc in omega arith)
-
--- the bytes that a reader leaves are those from the place that it gives
-pub left-at : {A : Type 0} {Q : A → List (List ℕ) → Type 0} (p : Reader A) → Only p Q → (s : List ℕ) (at : ℕ) → Bytes (drop at s) → at ≤ length s →
-    (a : A) (past : ℕ) (more : List ℕ) → p at (drop at s) ≡ got a past more → (more ≡ drop past s) × (past ≤ length s)
-left-at p only s at y h a past more e =
-    let g = only at (drop at s) a past more y e in
-    let f = flat (g .records) in
-    let d : drop past s ≡ more =
-    ap (λ (k : ℕ). drop k s) (g .place) ∙ sym (drop-drop (length f) at s) ∙ ap (drop (length f)) (g .whole) ∙ drop-at f more (length f) refl in
-    (sym d, omega (arith, g .place, ap length (g .whole), length-append f more, length-drop at s))
-
--- records in turn, where only the place and the refusal are kept: what a loop's invariant carries on
+-- records in turn: one that is refused stops them
 module _ {A S : Type 0} (p : S → Reader A) (next : S → A → S) where
-  passed-cons : (a : A) (r : Parsed (List A)) → passed (follow r (λ xs. got (a ∷ xs))) ≡ passed r
-  passed-cons a (stop r) = refl
-  passed-cons a (got xs at b) = refl
-
-  pub many-on : (n : ℕ) (s : S) (at : ℕ) (b : List ℕ) (a : A) (past : ℕ) (more : List ℕ) → p s at b ≡ got a past more → passed (many p next (suc n) s at b) ≡ passed (many p next n (next s a) past more)
-  many-on n s at b a past more e = ap (λ r. passed (follow r (λ x. many p next n (next s x) then (λ xs. got (x ∷ xs))))) e ∙ passed-cons a (many p next n (next s a) past more)
-
   pub many-stop : (n : ℕ) (s : S) (at : ℕ) (b : List ℕ) (r : Refusal) → p s at b ≡ stop r → many p next (suc n) s at b ≡ stop r
   many-stop n s at b r e = ap (λ r. follow r (λ x. many p next n (next s x) then (λ xs. got (x ∷ xs)))) e
-
--- a turn of a loop over a slice: it passes one, and what is left ends as before; or it stops
-module _ {A S : Type 0} {Q : S → A → List (List ℕ) → Type 0} (p : S → Reader A) (next : S → A → S) (only : (s : S) → Only (p s) (Q s)) (l : List ℕ) (h : (i : ℕ) → getD l i 0 < 256) where
-  pub record Turn (n : ℕ) (s : S) (at past : ℕ) : Type 0 where
-    pub value : A
-    pub within : past ≤ length l
-    pub read : p s at (drop at l) ≡ got value past (drop past l)
-    pub on : passed (many p next (suc n) s at (drop at l)) ≡ passed (many p next n (next s value) past (drop past l))
-
-  pub turn : (n : ℕ) (s : S) (at past : ℕ) → at ≤ length l → Past past ≡ passed (p s at (drop at l)) → Turn n s at past
-  turn n s at past w e =
-      let (a, more, r) = ended (p s at (drop at l)) past (sym e) in
-      let d = left-at (p s) (only s) l at (bytes-of l h at) w a past more r in
-      let q : p s at (drop at l) ≡ got a past (drop past l) = r ∙ ap (got a past) (d .0) in
-      record { value = a; within = d .1; read = q; on = many-on p next n s at (drop at l) a past (drop past l) q }
-
-  pub turn-stops : (n : ℕ) (s : S) (at : ℕ) (x : Refusal) → Stopped x ≡ passed (p s at (drop at l)) → Stopped x ≡ passed (many p next (suc n) s at (drop at l))
-  turn-stops n s at x e = sym (ap passed (many-stop p next n s at (drop at l) x (halted (p s at (drop at l)) x (sym e))))
 
 -- and with what is read: the front that is done, before what is to come
 module _ {A S : Type 0} (p : S → Reader A) (next : S → A → S) where

@@ -8,8 +8,6 @@ use lib.ListN.{length, drop}
 use Rattle.tariff_file.specs.Layout.{Layout, Held, sizes, values}
 use Rattle.tariff_file.specs.declared.Refusal.{Refusal}
 use Rattle.tariff_file.specs.declared.Refusal.the-variants.{WrongMark, CutShort}
-use Rattle.tariff_file.specs.declared.Passed.{Passed}
-use Rattle.tariff_file.specs.declared.Passed.the-variants.{Past, Stopped}
 
 -- a refusal, or what is read, the offset after it and the bytes from there on
 pub data Parsed (A : Type 0) : Type 0 where
@@ -25,11 +23,6 @@ abbrev pub Fault : Type 0
 Fault = Option (ℕ → Refusal)
 
 module _ {A : Type 0} where
-  -- where reading ends, whatever is read
-  abbrev pub passed : Parsed A → Passed
-  passed (stop r) = Stopped r
-  passed (got a at b) = Past at
-
   abbrev pub judged : Fault → ℕ → Parsed A → Parsed A
   judged none at next = next
   judged (some r) at next = stop (r at)
