@@ -49,10 +49,10 @@ enough (suc j) (suc k) n h g =
     (λ l. places-one j n l ∙ sym (places-one k n l))
     (λ l. places-more j n l ∙ ap suc (enough j k (n / 10) (omega (arith, tenth n l)) (omega (arith, tenth n l))) ∙ sym (places-more k n l))
 
-pub glyph-digit : (d : ℕ) → d < 10 → glyph d ≡ 48 + d
+glyph-digit : (d : ℕ) → d < 10 → glyph d ≡ 48 + d
 glyph-digit d h = rw (lt-ltb d 10 h)
 
-pub last-digit : (n : ℕ) → n % 10 < 10
+last-digit : (n : ℕ) → n % 10 < 10
 last-digit n = mod-lt n (omega arith)
 
 -- the two equations
@@ -152,13 +152,9 @@ digits-decimal (suc (suc k)) n f =
     (ap (λ (d : List ℕ). d ++ ((48 + n % 10) ∷ []))
     (digits-decimal (suc k) (n / 10) (omega arith, div-lt-iff-lt-mul (omega arith) .1 few, λ h. rw d (le-div-iff-mul-le {k = 10} (omega arith) .1 many))))
 
-pub length-digits : (b k n : ℕ) → length (digits b k n) ≡ k
+length-digits : (b k n : ℕ) → length (digits b k n) ≡ k
 length-digits b zero n = refl
 length-digits b (suc k) n = length-append (digits b k (n / b)) (glyph (n % b) ∷ []) ∙ ap (λ (j : ℕ). j + 1) (length-digits b k (n / b)) ∙ add-one k
-
-pub decimal-spelt : (n : ℕ) → decimal n ≡ digits 10 (length (decimal n)) n
-unfolding decimal
-decimal-spelt n = ap (λ (k : ℕ). digits 10 k n) (sym (length-digits 10 (places (suc n) n) n))
 
 -- and as many
 pub decimal-long : (k n : ℕ) → Fewest 10 1 n k → k ≡ length (decimal n)

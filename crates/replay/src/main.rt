@@ -3,19 +3,25 @@
 
 use join_file::join_file;
 ghost use Prim.Native.Nat.{_≤_};
-ghost use mathlib.Core.Path.{_≡_};
-ghost use mathlib.Core.Bool.{true};
 ghost use lib.ListN.{length as ListN·length};
 
-// Room for a file of the list, and for its text.
-const ROOM: usize = 65536;
+// Room for the list, and for a text of it.
+const LIST_ROOM: usize = 262144;
 
-// What comes of a file of the list.
-enum Found {
-    Agrees,
-    Differs,
-    Broken,
-    End,
+const TEXT_ROOM: usize = 65536;
+
+// Whether a file's text is the one that is stored, and how many bytes of the list they take; 0 where the list breaks off.
+struct Turn {
+    agrees: bool,
+    length: usize,
+}
+
+// How many files agree and how many do not, which is the first that does not, counted from 1, and whether the list is whole.
+struct Tally {
+    agree: u64,
+    differ: u64,
+    first: u64,
+    whole: bool,
 }
 
 fn wide(b: u8) -> usize
@@ -25,139 +31,92 @@ fn wide(b: u8) -> usize
 }
 
 // The length that four bytes tell.
-fn told(a: u8, b: u8, c: u8, d: u8) -> usize {
+fn told(a: u8, b: u8, c: u8, d: u8) -> usize
+    ensures { λ r. ⌜ r ≤ 4294967295 ⌝ }
+{
     wide(a) * 16777216 + wide(b) * 65536 + wide(c) * 256 + wide(d)
 }
 
-// Reads so many bytes to the front of a buffer, and answers whether there is room for them and they were there.
-fn read_part(fd: i32, length: usize, part: &mut [u8]) -> bool
-    ensures { λ r. ⌜ (r ≡ true → length ≤ ListN·length (now (part .exit))) ⌝ }
+// Whether a file prints as the text that is stored.
+fn agrees(file: &[u8], want: &[u8]) -> bool {
+    let mut text: [u8; TEXT_ROOM] = [0; TEXT_ROOM];
+    let count = join_file(file, &mut text);
+    check::same(&text[..count], want)
+}
+
+// The file and the text at the front of what is left of the list.
+fn replay_next(rest: &[u8]) -> Turn
+    ensures { λ r. ⌜ r .length ≤ ListN·length (now (rest .entry)) ⌝ }
 {
-    if part.len() < length {
-        return false;
+    let broken = Turn {
+        agrees: false,
+        length: 0,
+    };
+    if rest.len() < 8 {
+        return broken;
     }
-    io::read_full(fd, &mut part[..length]) == length
-}
-
-// The file and the text of these lengths that come next in the list, read into buffers.
-fn replay_file(
-    fd: i32,
-    file_length: usize,
-    text_length: usize,
-    file: &mut [u8],
-    want: &mut [u8],
-    text: &mut [u8],
-) -> Found {
-    if !read_part(fd, file_length, file) {
-        return Found::Broken;
+    let text_at = 8 + told(rest[0], rest[1], rest[2], rest[3]);
+    let end = text_at + told(rest[4], rest[5], rest[6], rest[7]);
+    if rest.len() < end {
+        return broken;
     }
-    if !read_part(fd, text_length, want) {
-        return Found::Broken;
-    }
-    let count = join_file(&file[..file_length], text);
-    if check::same(&text[..count], &want[..text_length]) {
-        Found::Agrees
-    } else {
-        Found::Differs
+    Turn {
+        agrees: agrees(&rest[8..text_at], &rest[text_at..end]),
+        length: end,
     }
 }
 
-// What comes next in the list.
-fn replay_next(fd: i32) -> Found {
-    let mut head: [u8; 8] = [0; 8];
-    let got = io::read_full(fd, &mut head);
-    if got == 0 {
-        return Found::End;
+// The whole list.
+fn replay(list: &[u8]) -> Tally {
+    let mut agree: u64 = 0;
+    let mut differ: u64 = 0;
+    let mut first: u64 = 0;
+    let mut at: usize = 0;
+    while at < list.len() {
+        let turn = replay_next(&list[at..]);
+        if turn.length == 0 {
+            break;
+        }
+        if turn.agrees {
+            agree += 1;
+        } else {
+            if differ == 0 {
+                first = agree + 1;
+            }
+            differ += 1;
+        }
+        at += turn.length;
     }
-    if got < 8 {
-        return Found::Broken;
+    Tally {
+        agree,
+        differ,
+        first,
+        whole: at == list.len(),
     }
-    let file_length = told(head[0], head[1], head[2], head[3]);
-    let text_length = told(head[4], head[5], head[6], head[7]);
-    let mut file: [u8; ROOM] = [0; ROOM];
-    let mut want: [u8; ROOM] = [0; ROOM];
-    let mut text: [u8; ROOM] = [0; ROOM];
-    replay_file(
-        fd,
-        file_length,
-        text_length,
-        &mut file,
-        &mut want,
-        &mut text,
-    )
 }
 
 fn say(words: &[u8]) {
     io::write_all(libc::STDOUT_FILENO, words);
 }
 
-// How many files agreed and how many did not, and whether there may be more.
-struct Tally {
-    agree: u64,
-    differ: u64,
-    more: bool,
+fn say_number(n: u64) {
+    io::print_decimal(libc::STDOUT_FILENO, n);
 }
 
-fn one_more(n: u64) -> u64 {
-    if n < 1000000 { n + 1 } else { n }
-}
-
-// Says which file, counted from 1, is the first that does not agree.
-fn name(tally: Tally) {
-    if tally.differ == 0 {
+// Says what came of the list.
+fn report(tally: Tally) {
+    say_number(tally.agree);
+    say(b" files agree, ");
+    say_number(tally.differ);
+    say(b" differ\n");
+    if tally.differ > 0 {
         say(b"the first that differs is file ");
-        io::print_decimal(libc::STDOUT_FILENO, one_more(tally.agree));
+        say_number(tally.first);
         say(b"\n");
     }
-}
-
-// One file more.
-fn replay_one(fd: i32, tally: Tally) -> Tally {
-    let agree = tally.agree;
-    let differ = tally.differ;
-    match replay_next(fd) {
-        Found::Agrees => Tally {
-            agree: one_more(agree),
-            differ,
-            more: true,
-        },
-        Found::Differs => {
-            name(tally);
-            Tally {
-                agree,
-                differ: one_more(differ),
-                more: true,
-            }
-        }
-        Found::Broken => {
-            say(b"the list is broken\n");
-            Tally {
-                agree,
-                differ,
-                more: false,
-            }
-        }
-        Found::End => Tally {
-            agree,
-            differ,
-            more: false,
-        },
+    if !tally.whole {
+        say(b"the list breaks off\n");
     }
-}
-
-// The whole list; the turns are more than any run uses up.
-fn replay(fd: i32) -> Tally {
-    let mut tally = Tally {
-        agree: 0,
-        differ: 0,
-        more: true,
-    };
-    let mut turns: u64 = u64::MAX;
-    while turns > 0 && tally.more {
-        tally = replay_one(fd, tally);
-        turns -= 1;
-    }
-    tally
 }
 
 fn main() {
@@ -166,10 +125,8 @@ fn main() {
         os::fail(b"answers.bin");
         return;
     }
-    let tally = replay(fd);
+    let mut list: [u8; LIST_ROOM] = [0; LIST_ROOM];
+    let length = io::read_full(fd, &mut list);
     libc::close(fd);
-    io::print_decimal(libc::STDOUT_FILENO, tally.agree);
-    say(b" files agree, ");
-    io::print_decimal(libc::STDOUT_FILENO, tally.differ);
-    say(b" differ\n");
+    report(replay(&list[..length]));
 }

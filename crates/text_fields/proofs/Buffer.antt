@@ -13,7 +13,7 @@ module _ (at : ℕ) (s old : List ℕ) (h : at + length s ≤ length old) where
   head-long : length (take at old) ≡ at
   head-long = length-take-le at old (omega arith)
 
-  pub length-over : length (over at s old) ≡ length old
+  length-over : length (over at s old) ≡ length old
   length-over = simp (length-append, length-drop, head-long) (omega arith)
 
   whole-long : length (take at old ++ s) ≡ at + length s

@@ -84,15 +84,9 @@ fn put_digits(n: u64, place: usize, out: &mut [u8]) -> usize
     requires { ⌜ Room place (decimal n) (now out) ⌝ }
     ensures { λ r. ⌜ Put place (decimal n) (now (out .entry)) (now (out .exit)) r ⌝ }
 {
-    let end = place + digits_width(n);
-    let mut rest = n;
-    let mut at = end;
-    while place < at {
-        at -= 1;
-        out[at] = b'0' + (rest % 10) as u8;
-        rest /= 10;
-    }
-    end
+    let mut digits: [u8; 20] = [0; 20];
+    let count = io::decimal(n, &mut digits);
+    put_word(&digits[..count], place, out)
 }
 
 // Writes a number.

@@ -1,38 +1,38 @@
--- `replay` ends: its turns are counted down. Assumes nothing.
+-- `replay` ends, and counts no more files than the bytes it has passed. Assumes nothing.
+use Prim.Native.Nat.{_+_, _-_, _≤_, zero-le}
+use mathlib.Core.Path.{_≡_}
+use mathlib.Core.Logic.{⊎-elim}
 use native.Mathlib.Omega.{arith}
 use borrow.Author.Needs.{needs}
+use lib.ListN.{length, drop, length-take}
 use Rattle.replay.proofs.replay.Statement.{statement}
 use Rattle.replay.proofs.replay.Tie as tie
-use Rattle.replay.proofs.replay.Reads as reads
-use Rattle.replay.proofs.replay.Lts as lts
-use Rattle.replay.proofs.replay_one.Reads as replay-one-reads
 
 abbrev Inv-loop : tie.InvT-loop
-Inv-loop fd tally₀ turns₀ tally turns = Unit {0}
+Inv-loop list agree₀ differ₀ first₀ at₀ agree differ first at = (agree + differ ≤ at) × (at ≤ length list)
 
 abbrev μ-loop : tie.MeasureT-loop
-μ-loop fd tally₀ turns₀ tally turns = turns
+μ-loop list agree₀ differ₀ first₀ at₀ agree differ first at = length list - at
 
-loop-holds : tie.Need-loop-holds Inv-loop μ-loop
-loop-holds c = search needs
+abbrev turn-of : tie.Joined2 Inv-loop μ-loop → tie.After-replay-next Inv-loop μ-loop
+turn-of j = j .before .before .before
 
-replay-one-requires : tie.Need-replay-one-requires Inv-loop μ-loop
-replay-one-requires c κs = search needs
+abbrev at-of : tie.After-replay-next Inv-loop μ-loop → tie.At-loop Inv-loop μ-loop
+at-of r = r .before .before .before
 
-sub-turns : tie.Need-sub-turns Inv-loop μ-loop
-sub-turns c = search needs
+abbrev start-of : tie.At-loop Inv-loop μ-loop → tie.Start Inv-loop μ-loop
+start-of l = l .before .before
 
-loop-less : tie.Need-loop-less Inv-loop μ-loop
-loop-less c = search needs
+-- a file takes no more than is left
+within : (r : tie.After-replay-next Inv-loop μ-loop) → let l = at-of r in r .replay-next .result .length ≤ length (start-of l .args .list .now) - l .loop .at
+within r =
+    let l = at-of r in
+    let list = start-of l .args .list .now in
+    omega (arith, r .replay-next .ensures, length-take (length list - l .loop .at) (drop (l .loop .at) list))
 
-loop-again : tie.Need-loop-again Inv-loop μ-loop
-loop-again c = search needs
-
-returns : tie.Need-returns Inv-loop μ-loop
-returns c = search needs
-
-returns-2 : tie.Need-returns-2 Inv-loop μ-loop
-returns-2 c = search needs
+-- one file more is counted
+counted : (j : tie.Joined2 Inv-loop μ-loop) → let l = at-of (turn-of j) .loop in j .if2 .agree + j .if2 .differ ≡ l .agree + l .differ + 1
+counted j = ⊎-elim (λ w. omega (arith, w .1, w .2)) (λ w. omega (arith, w .2, w .3)) (j .if2 .came)
 
 pub replay-spec : {M : Type 1} → statement M
 replay-spec =
@@ -40,10 +40,15 @@ replay-spec =
     (tie.spec
     Inv-loop
     μ-loop
-    loop-holds
-    replay-one-requires
-    sub-turns
-    loop-less
-    loop-again
-    returns
-    returns-2)
+    (λ c. (zero-le, zero-le))
+    (λ c. omega arith)
+    (λ c. search needs)
+    (λ c. search needs)
+    (λ c κs. tt)
+    (λ c. record { fits = omega arith })
+    (λ c. record { fits = omega arith })
+    (λ c. record { fits = omega arith })
+    (λ c. let r : tie.After-replay-next Inv-loop μ-loop = search in record { fits = omega (arith, within r) })
+    (λ c. let j : tie.Joined2 Inv-loop μ-loop = search in omega (arith, within (turn-of j)))
+    (λ c. let j : tie.Joined2 Inv-loop μ-loop = search in (omega (arith, counted j), omega (arith, within (turn-of j))))
+    (λ c. search needs))
