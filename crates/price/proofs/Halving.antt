@@ -1,11 +1,11 @@
 -- What halving finds: turns enough are enough, the place is among those it began with, and where the starts ascend it is the last that is not beyond the point. Assumes nothing.
 use Prim.Native.Nat.{ℕ, zero, suc, _+_, _-_, _/_, _≤_, _<_}
-use mathlib.Core.Path.{_≡_, refl, sym}
+use mathlib.Core.Path.{_≡_, refl, sym, _∙_}
 use mathlib.Core.Logic.{_⊎_, inl, inr}
 use mathlib.Core.Bool.{Bool, true, false, cond}
 use native.Mathlib.Omega.{arith}
 use lib.Dec.{leb}
-use borrow.Author.Tests.{leb-true, leb-false}
+use borrow.Author.Tests.{leb-true, leb-false, le-leb, lt-leb}
 use Rattle.price.specs.Reading.{halve, found}
 
 -- the last of n places whose start is not beyond p; the first where all are
@@ -16,7 +16,7 @@ pub record Last (start : ℕ → ℕ) (p n r : ℕ) : Type 0 where
 
 module _ (start : ℕ → ℕ) (p : ℕ) where
   -- where one turn goes on
-  abbrev pub turned : ℕ → ℕ → ℕ
+  abbrev turned : ℕ → ℕ → ℕ
   turned b n = cond (leb (start (b + n / 2)) p) (b + n / 2) b
 
   abbrev Way : ℕ → ℕ → Type 0
@@ -49,25 +49,10 @@ module _ (start : ℕ → ℕ) (p : ℕ) where
   more (suc turns) zero b n h l = absurd (omega arith)
   more (suc turns) (suc turns') b n h l = more turns turns' (turned b n) (n - n / 2) (omega arith) (omega arith)
 
-  pub turn : (b n : ℕ) → 1 < n → halve start p n b n ≡ halve start p (n - n / 2) (turned b n) (n - n / 2)
+  turn : (b n : ℕ) → 1 < n → halve start p n b n ≡ halve start p (n - n / 2) (turned b n) (n - n / 2)
   unfolding halve
   turn b zero h = absurd (omega arith)
   turn b (suc n) h = sym (more (suc n - suc n / 2) n (turned b (suc n)) (suc n - suc n / 2) (omega arith) (omega arith))
-
-  pub stop : (b n : ℕ) → n ≤ 1 → halve start p n b n ≡ b
-  stop b n h = still n b n h
-
-  inside : (turns b n : ℕ) → 0 < n → halve start p turns b n < b + n
-  unfolding halve
-  inside zero b n h = omega arith
-  inside (suc turns) b n h = go (way b n) (inside turns (turned b n) (n - n / 2) (omega arith))
-    where
-      go : Way b n → halve start p turns (turned b n) (n - n / 2) < turned b n + (n - n / 2) → halve start p turns (turned b n) (n - n / 2) < b + n
-      go (inl u) k = omega (arith, u .0)
-      go (inr u) k = omega (arith, u .0)
-
-  pub found-inside : (n : ℕ) → 0 < n → found start p n < n
-  found-inside n h = omega (arith, inside n 0 n h)
 
   -- starts that ascend, of n places
   module _ (n : ℕ) (ascend : (i j : ℕ) → i ≤ j → j < n → start i ≤ start j) where
@@ -85,3 +70,25 @@ module _ (start : ℕ → ℕ) (p : ℕ) where
 
     pub found-last : 0 < n → Last start p n (found start p n)
     found-last h = narrow n 0 n h (omega arith) (omega arith) (λ z. z) (λ j a z. absurd (omega arith))
+
+-- what a loop keeps that halves: what it finds among the n places from b on is what is found among all
+pub record Halved (start : ℕ → ℕ) (p all b n : ℕ) : Type 0 where
+  pub some : 0 < n
+  pub inside-all : b + n ≤ all
+  pub same : found start p all ≡ halve start p n b n
+
+module _ {start : ℕ → ℕ} {p : ℕ} where
+  pub begun : (all : ℕ) → 0 < all → Halved start p all 0 all
+  begun all h = record { some = h; inside-all = omega arith; same = refl }
+
+  module _ {all b n : ℕ} (i : Halved start p all b n) where
+    -- a turn, with the start at the middle
+    module _ (h : 1 < n) (k : ℕ) (e : k ≡ start (b + n / 2)) where
+      pub upper : k ≤ p → Halved start p all (b + n / 2) (n - n / 2)
+      upper l = let q = le-leb (start (b + n / 2)) p (omega arith) in record { some = omega arith; inside-all = omega arith; same = i .same ∙ turn start p b n h ∙ rw q }
+
+      pub lower : p < k → Halved start p all b (n - n / 2)
+      lower l = let q = lt-leb (start (b + n / 2)) p (omega arith) in record { some = omega arith; inside-all = omega arith; same = i .same ∙ turn start p b n h ∙ rw q }
+
+    pub ended : n ≤ 1 → (b ≡ found start p all) × (b < all)
+    ended h = (sym (i .same ∙ still start p n b n h), omega arith)

@@ -91,13 +91,22 @@ module _ {P : Type 0} (w : Width P) where
   abbrev pub pieces : Merged P → ℕ → List Range
   pieces c n = ranges (keys w (c .start)) (keys w (c .end)) (λ i. getD (c .value) i (pos 0)) 0 (places c n)
 
+  -- what is charged by the piece at the place found, of m places that count
+  module _ (c : Merged P) (n p : ℕ) {m : ℕ} (e : m ≡ places c n) where
+    pub price-none : m ≡ 0 → none ≡ price-at w c n p
+    unfolding price-at
+    price-none z = let q : places c n ≡ 0 = omega arith in rw q
+
+    pub price-found : {i : ℕ} {x : Range} → 0 < m → i ≡ found (keys w (c .start)) p m → x ≡ piece w c i → charge x p ≡ price-at w c n p
+    unfolding price-at
+    price-found h f q = rw (← e, lt-ltb 0 m h, ← f) (ap (λ y. charge y p) q)
+
   pub price-is-at : (c : Merged P) (n p d : ℕ) → Within 0 d (pieces c n) → price-at w c n p ≡ at (pieces c n) p
-  unfolding price-at
   price-is-at c n p d a = go (le-or-lt (places c n) 0)
     where
       go : (places c n ≤ 0) ⊎ (0 < places c n) → price-at w c n p ≡ at (pieces c n) p
-      go (inl z) = let q : places c n ≡ 0 = omega arith in rw q
-      go (inr z) = rw (lt-ltb 0 (places c n) z) (reads _ _ _ p d (places c n) a z)
+      go (inl z) = let q : places c n ≡ 0 = omega arith in sym (price-none c n p refl q) ∙ rw q
+      go (inr z) = sym (price-found c n p refl z refl refl) ∙ reads _ _ _ p d (places c n) a z
 
 front-at : {R A : Type 0} (f : R → A) (rs : List R) (l : List A) (i : ℕ) (d : A) (r : R) → i < length rs → getD (map f rs ++ l) i d ≡ f (getD rs i r)
 front-at f [] l i d r h = absurd (omega arith)

@@ -1,5 +1,7 @@
-// The price at a point of columns with pieces: what the piece that was found says of the point, and a price as it is written.
+// The price at a point of columns with pieces: how many places count, what a piece says of a point, and a price as it is written.
 
+use rules::shorter;
+ghost use Prim.Native.Nat.{min};
 ghost use mathlib.Core.Path.{_≡_};
 ghost use Rattle.price.specs.Reading.{said, charge, pence, presence};
 
@@ -8,6 +10,13 @@ pub enum Price {
     // Nothing is on sale there.
     Nothing,
     Pence(i64),
+}
+
+// How many places count: those of the pieces that all three columns have.
+pub fn places(pieces: usize, start: usize, end: usize, value: usize) -> usize
+    ensures { λ r. ⌜ r ≡ min pieces (min start (min end value)) ⌝ }
+{
+    shorter(pieces, shorter(start, shorter(end, value)))
 }
 
 // What a piece says of a point, all points told by their keys.

@@ -5,6 +5,7 @@ use integer::seat::key;
 use integer::seat::key_at;
 use price::Price;
 use price::charged;
+use price::places;
 use price::written_presence;
 use price::written_value;
 use rules::Answer;
@@ -19,16 +20,20 @@ ghost use Rattle.price.specs.Reading.{said, found, price-at};
 ghost use Rattle.price.specs.Batch.{before, after, prices-at};
 
 // The place that halving finds among the first starts, so many of them: where they ascend, the last that is not beyond the point.
-fn find(start: &[Point], places: usize, point: u64) -> usize
-    requires { ⌜ (0 < places) × (places ≤ length (now start)) ⌝ }
-    ensures { λ r. ⌜ r ≡ found (keys seats (now (start .entry))) point places ⌝ }
+fn find(start: &[Point], among: usize, point: u64) -> usize
+    requires { ⌜ (0 < among) × (among ≤ length (now start)) ⌝ }
+    ensures { λ r. ⌜ (r ≡ found (keys seats (now (start .entry))) point among) × (r < among) ⌝ }
 {
     let mut base: usize = 0;
-    let mut size = places;
+    let mut size = among;
     while size > 1 {
         let half = size / 2;
         let middle = base + half;
-        base = if key_at(start, middle) <= point { middle } else { base };
+        base = if key_at(start, middle) <= point {
+            middle
+        } else {
+            base
+        };
         size -= half;
     }
     base
@@ -38,12 +43,17 @@ fn find(start: &[Point], places: usize, point: u64) -> usize
 fn price_at_key(start: &[Point], end: &[Point], value: &[i64], pieces: usize, point: u64) -> Price
     ensures { λ r. ⌜ said r ≡ price-at seats (merged.before «start» «end» «value») pieces point ⌝ }
 {
-    let places = shorter(pieces, shorter(start.len(), shorter(end.len(), value.len())));
-    if places == 0 {
+    let counted = places(pieces, start.len(), end.len(), value.len());
+    if counted == 0 {
         return Price::Nothing;
     }
-    let place = find(start, places, point);
-    charged(key_at(start, place), key_at(end, place), value[place], point)
+    let place = find(start, counted, point);
+    charged(
+        key_at(start, place),
+        key_at(end, place),
+        value[place],
+        point,
+    )
 }
 
 // The price at a point: of the first pieces of the columns, so many of them, what the one that has it says.
