@@ -1,21 +1,24 @@
 -- Prices that are written row by row: what the rows passed hold, one row more, and the whole outcome. Assumes nothing.
 use Prim.Native.Nat.{ℕ, _+_, _≤_, _<_}
-use mathlib.Core.Path.{_≡_, sym, ap, _∙_}
+use mathlib.Core.Path.{_≡_, refl, sym, ap, _∙_}
+use mathlib.Core.Bool.{Bool, true, false}
 use mathlib.Core.Option.{Option}
 use mathlib.Core.List.{List}
 use native.Mathlib.Omega.{arith}
 use native.Mathlib.Nat.{zero-add}
-use lib.IntN.{ℤ}
+use lib.Dec.{leb}
+use lib.IntN.{ℤ, pos}
 use lib.ListN.{length, getD, take, set}
 use lib.Seq.{drop-cons, length-take-le, take-length}
 use borrow.Author.Tests.{le-leb, lt-leb}
 use Rattle.rules.specs.Lists.{Width, keys}
-use Rattle.rules.specs.Answer.{leaves, laid}
+use Rattle.rules.specs.Answer.{Outcome, leaves, laid}
 use Rattle.rules.specs.Merged.{Merged}
 use Rattle.rules.specs.declared.Answer.the-variants.{Done, NoRoom}
 use Rattle.rules.proofs.Fronts.{laid-nothing, laid-long, laid-more}
 use Rattle.price.specs.Reading.{price-at, pence, presence}
-use Rattle.price.specs.Batch.{Priced, room, prices-at}
+use Rattle.price.specs.Batch.{Priced, room, lay, prices-at}
+use Rattle.price.proofs.Reading.{front-at}
 
 row : {P A : Type 0} (f : P → A) (ps : List P) (i : ℕ) (x : P) (old : List A) → i < length ps → length ps ≤ length old → set (laid 0 f (take i ps) old) i (f (getD ps i x)) ≡ laid 0 f (take (i + 1) ps) old
 row f ps i x old h l = ap (λ k. set (laid 0 f (take i ps) old) k (f (getD ps i x))) (sym (zero-add i)) ∙ laid-more f 0 ps i _ _ old (drop-cons ps i x h) (omega arith)
@@ -34,6 +37,20 @@ module _ {P : Type 0} (w : Width P) (c : Merged P) (n : ℕ) (ps : List P) (d : 
     pub presence-long : length ps ≤ length (d .presence)
     pub value : r .value ≡ laid 0 value-of (take i ps) (d .value)
     pub presence : r .presence ≡ laid 0 presence-of (take i ps) (d .presence)
+
+  -- each row of a call that was done has the price at its point
+  module _ {m : ℕ} {r : Priced} (e : leaves (Done m) r ≡ prices-at w c n ps d) where
+    all-laid : r ≡ lay w c n 0 ps d
+    unfolding prices-at
+    all-laid = go (leb (length ps) (room d)) refl
+      where
+        go : (t : Bool) → leb (length ps) (room d) ≡ t → r ≡ lay w c n 0 ps d
+        go true q = let z = rw q at e in ap (λ (x : Outcome Priced). x .columns) z
+        go false q = let z = ap (λ (x : Outcome Priced). x .answer) (rw q at e) in let y : _≡_ {A = ℕ} 0 1 = cc in absurd (omega arith)
+
+    pub row-reads : (i : ℕ) → i < length ps → let x = price-at w c n (keys w ps i) in (getD (r .value) i (pos 0) ≡ pence x) × (getD (r .presence) i 0 ≡ presence x)
+    row-reads i h =
+        (ap (λ (x : Priced). getD (x .value) i (pos 0)) all-laid ∙ front-at value-of ps _ i (pos 0) (w .point 0) h, ap (λ (x : Priced). getD (x .presence) i 0) all-laid ∙ front-at presence-of ps _ i 0 (w .point 0) h)
 
   pub no-room : {s : ℕ} → s ≡ room d → s < length ps → leaves (NoRoom (length ps)) d ≡ prices-at w c n ps d
   unfolding prices-at

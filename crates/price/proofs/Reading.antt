@@ -108,7 +108,7 @@ module _ {P : Type 0} (w : Width P) where
       go (inl z) = let q : places c n ≡ 0 = omega arith in sym (price-none c n p refl q) ∙ rw q
       go (inr z) = sym (price-found c n p refl z refl refl) ∙ reads _ _ _ p d (places c n) a z
 
-front-at : {R A : Type 0} (f : R → A) (rs : List R) (l : List A) (i : ℕ) (d : A) (r : R) → i < length rs → getD (map f rs ++ l) i d ≡ f (getD rs i r)
+pub front-at : {R A : Type 0} (f : R → A) (rs : List R) (l : List A) (i : ℕ) (d : A) (r : R) → i < length rs → getD (map f rs ++ l) i d ≡ f (getD rs i r)
 front-at f [] l i d r h = absurd (omega arith)
 front-at f (x ∷ xs) l zero d r h = refl
 front-at f (x ∷ xs) l (suc i) d r h = front-at f xs l i d r (omega arith)

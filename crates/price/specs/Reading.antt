@@ -1,6 +1,7 @@
 -- The price at a point of columns with pieces: the place that halving finds, and what the piece there says of the point. Assumes nothing.
 use Prim.Native.Nat.{ℕ, zero, suc, _+_, _-_, _/_, min}
-use mathlib.Core.Bool.{cond, _&&_}
+use mathlib.Core.Path.{_≡_}
+use mathlib.Core.Bool.{cond}
 use mathlib.Core.Option.{Option, none, some}
 use lib.Dec.{ltb, leb}
 use lib.IntN.{ℤ, pos}
@@ -54,3 +55,8 @@ pence (some v) = v
 abbrev pub presence : Option ℤ → ℕ
 presence none = 0
 presence (some v) = 1
+
+-- what a C function says of a price: 1 comes back and the value is written, or 0 and 0
+pub record Told (x : Option ℤ) (r : ℕ) (v : ℤ) : Type 0 where
+  pub presence-back : r ≡ presence x
+  pub value-written : v ≡ pence x

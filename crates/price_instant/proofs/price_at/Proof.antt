@@ -3,7 +3,7 @@ use mathlib.Core.Path.{ap, _∙_}
 use borrow.Author.Needs.{needs}
 use Rattle.rules.specs.Lists.{instants}
 use Rattle.price.specs.Reading.{price-at}
-use Rattle.price.proofs.Points.{instant-key}
+use Rattle.price.proofs.Points.{instant-point}
 use Rattle.price_instant.proofs.price_at.Statement.{statement}
 use Rattle.price_instant.proofs.price_at.Tie as tie
 
@@ -13,4 +13,4 @@ price-at-spec =
     (tie.spec
     (λ c κs. search needs)
     (λ c κs. search needs)
-    (λ c. let s : tie.Start = search in c .price-at-key .ensures ∙ ap (price-at instants _ _) (instant-key (s .args .point) (s .fits .point) (c .before .key .ensures))))
+    (λ c. let s : tie.Start = search in c .price-at-key .ensures ∙ ap (price-at instants _ _) (c .before .key .ensures ∙ ap (instants .key) (instant-point (s .args .point) (s .fits .point)))))

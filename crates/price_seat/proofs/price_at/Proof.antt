@@ -3,7 +3,7 @@ use mathlib.Core.Path.{ap, _∙_}
 use borrow.Author.Needs.{needs}
 use Rattle.rules.specs.Lists.{seats}
 use Rattle.price.specs.Reading.{price-at}
-use Rattle.price.proofs.Points.{seat-key}
+use Rattle.price.proofs.Points.{seat-point}
 use Rattle.price_seat.proofs.price_at.Statement.{statement}
 use Rattle.price_seat.proofs.price_at.Tie as tie
 
@@ -13,4 +13,4 @@ price-at-spec =
     (tie.spec
     (λ c κs. search needs)
     (λ c κs. search needs)
-    (λ c. let s : tie.Start = search in c .price-at-key .ensures ∙ ap (price-at seats _ _) (seat-key (s .args .point) (s .fits .point) (c .before .key .ensures))))
+    (λ c. let s : tie.Start = search in c .price-at-key .ensures ∙ ap (price-at seats _ _) (c .before .key .ensures ∙ ap (seats .key) (seat-point (s .args .point) (s .fits .point)))))
