@@ -17,6 +17,7 @@ pub mod compare;
 pub mod coverage;
 pub mod faults;
 pub mod generator;
+pub mod price_bench;
 pub mod random;
 pub mod rattle_side;
 pub mod reading;

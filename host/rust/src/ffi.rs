@@ -217,6 +217,7 @@ macro_rules! readings {
 
         // Sound, both, for the reasons that `call` gives.
         impl Readings for $point {
+            #[inline]
             fn price_at(pieces: LentPieces<'_, Self>, point: Self) -> Option<i64> {
                 let LentPieces { starts, ends, values } = pieces;
                 let mut price = 0;

@@ -50,6 +50,7 @@ fn main() {
     for row in two_way.iter().chain(&listing).chain(&joins).chain(&selections) {
         println!("{}", line(row));
     }
+    print!("\n{}", oracle::price_bench::table());
 }
 
 fn rows(operations: &[Operation], list_counts: &[u64], ranges: usize) -> Vec<Row> {
