@@ -21,6 +21,7 @@ pub mod price_bench;
 pub mod random;
 pub mod rattle_side;
 pub mod reading;
+pub mod readings;
 pub mod small_lists;
 pub mod text;
 
