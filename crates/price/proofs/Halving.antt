@@ -72,23 +72,30 @@ module _ (start : ℕ → ℕ) (p : ℕ) where
     found-last h = narrow n 0 n h (omega arith) (omega arith) (λ z. z) (λ j a z. absurd (omega arith))
 
 -- what a loop keeps that halves: what it finds among the n places from b on is what is found among all
-pub record Halved (start : ℕ → ℕ) (p all b n : ℕ) : Type 0 where
+pub record Halved (start : ℕ → ℕ) (p all b n half : ℕ) : Type 0 where
   pub some : 0 < n
   pub inside-all : b + n ≤ all
+  pub half-is : half ≡ n / 2
   pub same : found start p all ≡ halve start p n b n
 
 module _ {start : ℕ → ℕ} {p : ℕ} where
-  pub begun : (all : ℕ) → 0 < all → Halved start p all 0 all
-  begun all h = record { some = h; inside-all = omega arith; same = refl }
+  pub begun : (all : ℕ) → 0 < all → Halved start p all 0 all (all / 2)
+  begun all h = record { some = h; inside-all = omega arith; half-is = refl; same = refl }
 
-  module _ {all b n : ℕ} (i : Halved start p all b n) where
+  module _ {all b n half : ℕ} (i : Halved start p all b n half) where
     -- a turn, with the start at the middle
-    module _ (h : 1 < n) (k : ℕ) (e : k ≡ start (b + n / 2)) where
-      pub upper : k ≤ p → Halved start p all (b + n / 2) (n - n / 2)
-      upper l = let q = le-leb (start (b + n / 2)) p (omega arith) in record { some = omega arith; inside-all = omega arith; same = i .same ∙ turn start p b n h ∙ rw q }
+    module _ (h : 0 < half) (k : ℕ) (e : k ≡ start (b + half)) where
+      here : n / 2 ≡ half
+      here = sym (i .half-is)
 
-      pub lower : p < k → Halved start p all b (n - n / 2)
-      lower l = let q = lt-leb (start (b + n / 2)) p (omega arith) in record { some = omega arith; inside-all = omega arith; same = i .same ∙ turn start p b n h ∙ rw q }
+      turns : halve start p n b n ≡ halve start p (n - half) (turned start p b n) (n - half)
+      turns = turn start p b n (omega (arith, i .half-is)) ∙ rw here
 
-    pub ended : n ≤ 1 → (b ≡ found start p all) × (b < all)
-    ended h = (sym (i .same ∙ still start p n b n h), omega arith)
+      pub upper : k ≤ p → Halved start p all (b + half) (n - half) ((n - half) / 2)
+      upper l = let q = le-leb (start (b + half)) p (omega arith) in record { some = omega (arith, i .half-is); inside-all = omega arith; half-is = refl; same = i .same ∙ turns ∙ rw (here, q) }
+
+      pub lower : p < k → Halved start p all b (n - half) ((n - half) / 2)
+      lower l = let q = lt-leb (start (b + half)) p (omega arith) in record { some = omega (arith, i .half-is); inside-all = omega arith; half-is = refl; same = i .same ∙ turns ∙ rw (here, q) }
+
+    pub ended : half ≤ 0 → (b ≡ found start p all) × (b < all)
+    ended h = (sym (i .same ∙ still start p n b n (omega (arith, i .half-is))), omega arith)

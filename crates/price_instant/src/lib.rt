@@ -26,8 +26,8 @@ fn find(start: &[Point], among: usize, point: u64) -> usize
 {
     let mut base: usize = 0;
     let mut size = among;
-    while size > 1 {
-        let half = size / 2;
+    let mut half = size / 2;
+    while half > 0 {
         let middle = base + half;
         base = if key_at(start, middle) <= point {
             middle
@@ -35,6 +35,7 @@ fn find(start: &[Point], among: usize, point: u64) -> usize
             base
         };
         size -= half;
+        half = size / 2;
     }
     base
 }

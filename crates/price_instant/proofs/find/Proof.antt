@@ -8,10 +8,10 @@ use Rattle.price_instant.proofs.find.Statement.{statement}
 use Rattle.price_instant.proofs.find.Tie as tie
 
 abbrev Inv-loop : tie.InvT-loop
-Inv-loop start among point base₀ size₀ base size = Halved (keys instants start) point among base size
+Inv-loop start among point base₀ size₀ half₀ base size half = Halved (keys instants start) point among base size half
 
 abbrev μ-loop : tie.MeasureT-loop
-μ-loop start among point base₀ size₀ base size = size
+μ-loop start among point base₀ size₀ half₀ base size half = size
 
 pub find-spec : {M : Type 1} → statement M
 find-spec =
