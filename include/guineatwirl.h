@@ -14,7 +14,10 @@
    n ranges have 2n events, and give at most 2n - 1 pieces; only the inner join of no lists gives a piece without a range. Room is the
    length of the shortest output column. Room for the pieces that there are is enough; room for 2n - 1 saves the pass that counts them.
 
-   A column of length 0 may be NULL. No output column may overlap another column, and number must not be NULL. The functions hold no
+   What a many-way join or a selection wrote is read by price_at, the price at a point, and prices_at, the prices at many: at each point
+   the price is what the operation's rule says of the lists there.
+
+   A column of length 0 may be NULL. No output column may overlap another column, and number and price must not be NULL. The functions hold no
    state and allocate nothing: any number of calls may run at once, each on output columns and a number of its own.
 
    Licensed under either of the MIT license or the Apache License, Version 2.0, at your option. */
@@ -39,11 +42,12 @@ extern "C" {
 #define GUINEATWIRL_MAX_EVENTS 4096
 
 /* Bytes of stack that are enough for a call, measured and rounded up: a check of one list, the event listing, a two-way join, a
-   many-way join or selection. */
+   many-way join or selection, a reading of prices. */
 #define GUINEATWIRL_STACK_CHECK 256
 #define GUINEATWIRL_STACK_LISTING 2048
 #define GUINEATWIRL_STACK_TWO_WAY 1024
 #define GUINEATWIRL_STACK_MULTIWAY 4096
+#define GUINEATWIRL_STACK_PRICES 256
 #define GUINEATWIRL_STACK_FILE 262144 /* a tariff file, whose columns are on the stack */
 
 /* The longest tariff file, and the longest text that one gives. */
@@ -117,7 +121,15 @@ static inline const char *guineatwirl_words(uint8_t code) {
 }
 
 /* Each operation has two forms. The long one takes every column with a length of its own. The short one calls the long one, and takes
-   columns of one length in structs; its name is the long one's without multiway_ and _join, and listing for list_events. */
+   columns of one length in structs; its name is the long one's without multiway_ and _join, and listing for list_events; price and
+   prices are those of price_at and prices_at. */
+
+/* The prices at some points. */
+typedef struct {
+    int64_t *value;    /* 0 where there is none */
+    uint8_t *presence; /* 1 where there is a price, else 0 */
+    size_t room;       /* the length of each column */
+} guineatwirl_prices;
 
 /* -- seats -- */
 
@@ -283,6 +295,32 @@ static inline uint8_t guineatwirl_seat_symmetric_difference(
         out->start, out->room, out->end, out->room, out->value, out->room, number);
 }
 
+/* The price at a point: 1 comes back and *price is the value of the piece that has it, or 0 and *price is 0 where none does. The first
+   places of the columns are read, pieces of them or as many as all columns have. The piece is found by halving; where pieces do not
+   ascend, halving goes on all the same, and the piece is that where it ends. */
+uint8_t guineatwirl_seat_price_at(
+    const uint32_t *start, size_t start_len, const uint32_t *end, size_t end_len, const int64_t *value, size_t value_len,
+    size_t pieces, uint32_t point, int64_t *price);
+
+static inline uint8_t guineatwirl_seat_price(const guineatwirl_seat_pieces *in, size_t pieces, uint32_t point, int64_t *price) {
+    return guineatwirl_seat_price_at(in->start, in->room, in->end, in->room, in->value, in->room, pieces, point, price);
+}
+
+/* The prices at some points, a row for each. GUINEATWIRL_DONE, or GUINEATWIRL_NO_ROOM where an output column is shorter than points;
+   the number is that of the points. */
+uint8_t guineatwirl_seat_prices_at(
+    const uint32_t *start, size_t start_len, const uint32_t *end, size_t end_len, const int64_t *value, size_t value_len,
+    size_t pieces, const uint32_t *points, size_t points_len,
+    int64_t *out_value, size_t out_value_len, uint8_t *out_presence, size_t out_presence_len, uint64_t *number);
+
+static inline uint8_t guineatwirl_seat_prices(
+    const guineatwirl_seat_pieces *in, size_t pieces, const uint32_t *points, size_t points_len, const guineatwirl_prices *out,
+    uint64_t *number) {
+    return guineatwirl_seat_prices_at(
+        in->start, in->room, in->end, in->room, in->value, in->room, pieces, points, points_len,
+        out->value, out->room, out->presence, out->room, number);
+}
+
 /* -- instants -- */
 
 /* One range of a list with its value. An array of them takes 24 bytes for each. */
@@ -445,6 +483,32 @@ static inline uint8_t guineatwirl_instant_symmetric_difference(
     return guineatwirl_instant_multiway_symmetric_difference(
         in->starts, in->ranges, in->ends, in->ranges, in->values, in->ranges, in->counts, in->lists,
         out->start, out->room, out->end, out->room, out->value, out->room, number);
+}
+
+/* The price at a point: 1 comes back and *price is the value of the piece that has it, or 0 and *price is 0 where none does. The first
+   places of the columns are read, pieces of them or as many as all columns have. The piece is found by halving; where pieces do not
+   ascend, halving goes on all the same, and the piece is that where it ends. */
+uint8_t guineatwirl_instant_price_at(
+    const int64_t *start, size_t start_len, const int64_t *end, size_t end_len, const int64_t *value, size_t value_len,
+    size_t pieces, int64_t point, int64_t *price);
+
+static inline uint8_t guineatwirl_instant_price(const guineatwirl_instant_pieces *in, size_t pieces, int64_t point, int64_t *price) {
+    return guineatwirl_instant_price_at(in->start, in->room, in->end, in->room, in->value, in->room, pieces, point, price);
+}
+
+/* The prices at some points, a row for each. GUINEATWIRL_DONE, or GUINEATWIRL_NO_ROOM where an output column is shorter than points;
+   the number is that of the points. */
+uint8_t guineatwirl_instant_prices_at(
+    const int64_t *start, size_t start_len, const int64_t *end, size_t end_len, const int64_t *value, size_t value_len,
+    size_t pieces, const int64_t *points, size_t points_len,
+    int64_t *out_value, size_t out_value_len, uint8_t *out_presence, size_t out_presence_len, uint64_t *number);
+
+static inline uint8_t guineatwirl_instant_prices(
+    const guineatwirl_instant_pieces *in, size_t pieces, const int64_t *points, size_t points_len, const guineatwirl_prices *out,
+    uint64_t *number) {
+    return guineatwirl_instant_prices_at(
+        in->start, in->room, in->end, in->room, in->value, in->room, pieces, points, points_len,
+        out->value, out->room, out->presence, out->room, number);
 }
 
 /* -- the tariff file -- */

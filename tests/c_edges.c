@@ -90,6 +90,48 @@ static void short_forms(void) {
     piece(1, 7, 9, 20);
 }
 
+/* What is read of the pieces 1 to 4 at 100 and 7 to 9 at 20, at each point from 0 to 10: the prices due there. */
+static const point points[] = {0, 1, 2, 3, 4, 5, 6, 7, 8, 9, 10};
+static const int due[] = {0, 100, 100, 100, 100, 0, 0, 20, 20, 20, 0};
+#define POINTS 11
+
+static void priced(const char *name, int i, int there, long long price) {
+    expect(name, due[i] != 0, there);
+    expect(name, due[i], price);
+}
+
+static void readings(void) {
+    int64_t price, prices[POINTS];
+    uint8_t there[POINTS];
+    const guineatwirl_prices out = {prices, there, POINTS};
+    done("pieces to be read", OF(symmetric_difference)(&in, &pieces, &number), 2);
+    for (int i = 0; i < POINTS; i++) {
+        price = -1;
+        int found = OF(price)(&pieces, 2, points[i], &price);
+        priced("price", i, found, (long long)price);
+    }
+    done("prices", OF(prices)(&pieces, 2, points, POINTS, &out, &number), POINTS);
+    for (int i = 0; i < POINTS; i++) priced("prices", i, there[i], (long long)prices[i]);
+    const guineatwirl_prices too_short = {prices, there, POINTS - 1};
+    prices[0] = 77;
+    expect("prices without room", GUINEATWIRL_NO_ROOM, OF(prices)(&pieces, 2, points, POINTS, &too_short, &number));
+    expect("prices without room", POINTS, (long long)number);
+    expect("prices without room", 77, (long long)prices[0]);
+    done("prices at no points", OF(prices_at)(start, ROOM, end, ROOM, value, ROOM, 2, NULL, 0, NULL, 0, NULL, 0, &number), 0);
+    /* Each column cut to 0, 1 and 2 places, and so many pieces asked for: the places that all have are read. */
+    for (size_t s = 0; s <= 2; s++) {
+        for (size_t e = 0; e <= 2; e++) {
+            for (size_t n = 0; n <= 3; n++) {
+                size_t all = s < e ? s : e;
+                if (n < all) all = n;
+                expect("price at 1", all >= 1, OF(price_at)(s ? start : NULL, s, e ? end : NULL, e, value, 2, n, 1, &price));
+                expect("price at 9", all >= 2, OF(price_at)(s ? start : NULL, s, end, 2, e ? value : NULL, e, n, 9, &price));
+            }
+        }
+    }
+    expect("price of as many pieces as can be named", 1, OF(price_at)(start, 2, end, 2, value, 2, SIZE_MAX, 9, &price));
+}
+
 /* Column number cut has length kept, and is NULL where that is 0; the others are whole. */
 static int cut;
 static size_t kept;
@@ -270,6 +312,7 @@ int main(void) {
     long_form("multiway_full_join", full_join, 7, 3);
     long_form("multiway_union", selected, 7, 2);
     long_form("multiway_symmetric_difference", odd, 7, 2);
+    readings();
     nothing(0);
     nothing(2);
     refusals();

@@ -8,7 +8,7 @@ use crate::case::{Case, Due};
 use crate::coverage::Coverage;
 use crate::rattle_side::{self, Proved};
 use crate::small_lists::{Universe, every_set};
-use crate::{answers, blaze_side, boundary, faults, file, generator, reading, text};
+use crate::{answers, blaze_side, boundary, faults, file, generator, reading, readings, text};
 
 /// Sets of lists taken whole: pairs over short lines, triples over shorter ones. The largest go
 /// through a few operations only.
@@ -92,6 +92,7 @@ fn run_width<T: Proved>(plan: Plan) -> Result<u64, String> {
         covered.add(proved);
     }
     all += crate::one_list::run::<T>(plan.seed)?;
+    readings::run::<T>(plan.seed)?;
     match covered.missing() {
         Some((operation, code)) => {
             Err(format!("the library never refused {operation} of {width} with code {code}"))

@@ -19,9 +19,11 @@ pub mod faults;
 pub mod file;
 pub mod generator;
 pub mod one_list;
+pub mod price_bench;
 pub mod random;
 pub mod rattle_side;
 pub mod reading;
+pub mod readings;
 pub mod small_lists;
 pub mod text;
 

@@ -74,16 +74,26 @@ pub fn pieces<T: Point>(operation: Operation, lent: &Lent<T>) -> Pieces<T> {
         Operation::TwoWayInner => Pieces::Sides(lists.shared_by_two()),
         Operation::TwoWayLeft => Pieces::Sides(lists.cut_by_two(|left, _| left)),
         Operation::TwoWayFull => Pieces::Sides(lists.cut_by_two(|left, right| left || right)),
-        Operation::Inner(combiner) => lists.priced(|present| {
-            (present.len() == lists.places.len()).then(|| combined(combiner, present))
-        }),
-        Operation::Full(combiner) => {
-            lists.priced(|present| (!present.is_empty()).then(|| combined(combiner, present)))
-        }
-        Operation::Union => lists.priced(|present| present.last().copied()),
+        _ => lists.priced(|present| rule(operation, lists.places.len(), present)),
+    }
+}
+
+/// The price of a many-way join or a selection at a point, over well-formed lists.
+pub fn price<T: Point>(operation: Operation, lent: &Lent<T>, point: T) -> Option<i64> {
+    let lists = Lists { lent, places: lent.list_places() };
+    rule(operation, lists.places.len(), &lists.present(point))
+}
+
+/// What a many-way join or a selection of so many lists makes of the values present.
+fn rule(operation: Operation, lists: usize, present: &[i64]) -> Option<i64> {
+    match operation {
+        Operation::Inner(combiner) => (present.len() == lists).then(|| combined(combiner, present)),
+        Operation::Full(combiner) => (!present.is_empty()).then(|| combined(combiner, present)),
+        Operation::Union => present.last().copied(),
         Operation::SymmetricDifference => {
-            lists.priced(|present| present.last().copied().filter(|_| present.len() % 2 == 1))
+            present.last().copied().filter(|_| present.len() % 2 == 1)
         }
+        _ => panic!("another kind of operation"),
     }
 }
 

@@ -63,7 +63,7 @@ module _ {P : Type 0} {Fits : P → Type 0} {w : Width P} (f : Faithful w Fits) 
     pub ends-fit : (i : ℕ) → i < length (l .ends) → Fits (getD (l .ends) i (w .point 0))
 
   module _ {o : Operation} {l : Lent P} {c d : Merged P} {n : ℕ} (k : Call o l c d n) where
-    abbrev pieces : List Range
+    abbrev pub pieces : List Range
     pieces = merged o (w .points) (lists w l)
 
     done : settle (judge w (kind-of o) l) (length pieces) (room c) c (lay w 0 pieces c) ≡ leaves (Done n) d
@@ -73,10 +73,10 @@ module _ {P : Type 0} {Fits : P → Type 0} {w : Width P} (f : Faithful w Fits) 
     answers : settle (judge w (kind-of o) l) (length pieces) (room c) c (lay w 0 pieces c) .answer ≡ Done n
     answers = ap (λ (r : Outcome (Merged P)). r .answer) done
 
-    counted : n ≡ length pieces
+    pub counted : n ≡ length pieces
     counted = given w (kind-of o) l (length pieces) (room c) c (lay w 0 pieces c) (Done n) .0 answers .0
 
-    laid : d ≡ lay w 0 pieces c
+    pub laid : d ≡ lay w 0 pieces c
     laid = ap (λ (r : Outcome (Merged P)). r .columns) (sym done) ∙ done-writes w (kind-of o) l (length pieces) (room c) c (lay w 0 pieces c) n answers
 
     rows-are : written n d ≡ rows pieces
@@ -89,10 +89,10 @@ module _ {P : Type 0} {Fits : P → Type 0} {w : Width P} (f : Faithful w Fits) 
         go Sound q e = q
         go (Refused a) q e = absurd (omega (arith, refused-early w (kind-of o) l 0 0 a q, ap turn e))
 
-    formed : AllWellFormed (w .points) (lists w l)
+    pub formed : AllWellFormed (w .points) (lists w l)
     formed = lists-formed (sound-formed w (kind-of o) l (λ i h. f .below _ (k .ends-fit i h)) sound)
 
-    ascending : Within 0 (w .points) pieces
+    pub ascending : Within 0 (w .points) pieces
     ascending = merged-right (w .points) o (lists w l) formed .ascending
 
   -- whatever the operations, joins or selections, their combiners, lists and list counts

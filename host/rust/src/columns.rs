@@ -43,11 +43,91 @@ impl<P: Point> PieceColumns<'_, P> {
         self.starts.len().min(self.ends.len()).min(self.values.len())
     }
 
+    /// The first `count` pieces, or all that there is room for where that is fewer, to be read at
+    /// points.
+    ///
+    /// ```
+    /// use guineatwirl::{Lists, PieceColumns, Tariff, lent};
+    ///
+    /// let lists = Lists::from_iter([[Tariff::new(1_u32..=5, 100)], [Tariff::new(5..=9, 20)]]);
+    /// let mut columns =
+    ///     PieceColumns { starts: &mut [0; 8], ends: &mut [0; 8], values: &mut [0; 8] };
+    /// let written = lent::multiway_union(lists.lend(), &mut columns)?;
+    /// assert_eq!(lent::price_at(columns.written(written), 5), Some(20));
+    /// # Ok::<(), guineatwirl::Refusal>(())
+    /// ```
+    #[must_use]
+    pub fn written(&self, count: usize) -> LentPieces<'_, P> {
+        let count = count.min(self.room());
+        LentPieces {
+            starts: &self.starts[..count],
+            ends: &self.ends[..count],
+            values: &self.values[..count],
+        }
+    }
+
     /// The first `count` pieces, or all that there is room for where that is fewer.
     pub fn pieces(&self, count: usize) -> impl Iterator<Item = Piece<P>> {
         let ranges = self.starts.iter().zip(&*self.ends);
         let pieces = ranges.zip(&*self.values);
         pieces.take(count).map(|((&start, &end), &value)| Piece { start, end, value })
+    }
+}
+
+/// Pieces in columns, as they are lent to be read. Those that all three columns have are read.
+///
+/// A host that keeps its pieces in columns lends them as they are; [`PieceColumns::written`] makes
+/// one of the columns that an operation wrote, [`Prices::lend`](crate::Prices::lend) one of pieces.
+///
+/// ```
+/// use guineatwirl::{LentPieces, lent};
+///
+/// let pieces = LentPieces { starts: &[1_u32, 6], ends: &[4, 9], values: &[100, 20] };
+/// assert_eq!(lent::price_at(pieces, 4), Some(100));
+/// assert_eq!(lent::price_at(pieces, 5), None);
+/// ```
+#[derive(Clone, Copy, Debug, PartialEq, Eq)]
+pub struct LentPieces<'a, P> {
+    /// The first point of each piece.
+    pub starts: &'a [P],
+    /// The last point of each piece.
+    pub ends: &'a [P],
+    /// The value of each piece.
+    pub values: &'a [i64],
+}
+
+/// Columns for the prices at some points.
+///
+/// ```
+/// use guineatwirl::{LentPieces, PriceColumns, lent};
+///
+/// let pieces = LentPieces { starts: &[1_u32], ends: &[4], values: &[100] };
+/// let mut columns = PriceColumns { values: &mut [7; 3], presences: &mut [7; 3] };
+/// let written = lent::prices_at(pieces, &[4, 5], &mut columns)?;
+/// assert_eq!(*columns.values, [100, 0, 7]);
+/// assert_eq!(*columns.presences, [1, 0, 7]);
+/// assert!(columns.prices(written).eq([Some(100), None]));
+/// # Ok::<(), guineatwirl::Refusal>(())
+/// ```
+#[derive(Debug, PartialEq, Eq)]
+pub struct PriceColumns<'a> {
+    /// The price at each point, or 0 where there is none.
+    pub values: &'a mut [i64],
+    /// 1 where there is a price, 0 where there is none.
+    pub presences: &'a mut [u8],
+}
+
+impl PriceColumns<'_> {
+    /// For how many prices there is room: the length of the shorter column.
+    #[must_use]
+    pub fn room(&self) -> usize {
+        self.values.len().min(self.presences.len())
+    }
+
+    /// The first `count` prices, or all that there is room for where that is fewer.
+    pub fn prices(&self, count: usize) -> impl Iterator<Item = Option<i64>> {
+        let rows = self.values.iter().zip(&*self.presences);
+        rows.take(count).map(|(&value, &presence)| (presence != 0).then_some(value))
     }
 }
 

@@ -7,7 +7,7 @@
 
 #![allow(unsafe_code)]
 
-use crate::{EventColumns, LentLists, PairColumns, PieceColumns, Tariff};
+use crate::{EventColumns, LentLists, LentPieces, PairColumns, PieceColumns, PriceColumns, Tariff};
 
 // A slice of tariffs is lent as it lies: as the C structs do.
 const _: () = assert!(size_of::<Tariff<u32>>() == 12 && size_of::<Tariff<i64>>() == 24);
@@ -189,6 +189,105 @@ functions! {
         multiway_union = guineatwirl_instant_multiway_union
         multiway_symmetric_difference = guineatwirl_instant_multiway_symmetric_difference
 }
+
+/// The functions of one width that read prices.
+pub trait Readings: Sized {
+    fn price_at(pieces: LentPieces<'_, Self>, point: Self) -> Option<i64>;
+    fn prices_at(
+        pieces: LentPieces<'_, Self>,
+        points: &[Self],
+        out: &mut PriceColumns<'_>,
+    ) -> Answer;
+}
+
+/// Declares the C functions of one width that read prices, and makes them functions of its points.
+macro_rules! readings {
+    ($point:ty, $price_at:ident, $prices_at:ident) => {
+        unsafe extern "C" {
+            fn $price_at(
+                start: *const $point,
+                start_len: usize,
+                end: *const $point,
+                end_len: usize,
+                value: *const i64,
+                value_len: usize,
+                pieces: usize,
+                point: $point,
+                price: *mut i64,
+            ) -> u8;
+            fn $prices_at(
+                start: *const $point,
+                start_len: usize,
+                end: *const $point,
+                end_len: usize,
+                value: *const i64,
+                value_len: usize,
+                pieces: usize,
+                points: *const $point,
+                points_len: usize,
+                out_value: *mut i64,
+                out_value_len: usize,
+                out_presence: *mut u8,
+                out_presence_len: usize,
+                number: *mut u64,
+            ) -> u8;
+        }
+
+        // Sound, both, for the reasons that `call` gives.
+        impl Readings for $point {
+            #[inline]
+            fn price_at(pieces: LentPieces<'_, Self>, point: Self) -> Option<i64> {
+                let LentPieces { starts, ends, values } = pieces;
+                let mut price = 0;
+                let presence = unsafe {
+                    $price_at(
+                        starts.as_ptr(),
+                        starts.len(),
+                        ends.as_ptr(),
+                        ends.len(),
+                        values.as_ptr(),
+                        values.len(),
+                        starts.len(),
+                        point,
+                        &mut price,
+                    )
+                };
+                (presence != 0).then_some(price)
+            }
+
+            fn prices_at(
+                pieces: LentPieces<'_, Self>,
+                points: &[Self],
+                out: &mut PriceColumns<'_>,
+            ) -> Answer {
+                let LentPieces { starts, ends, values } = pieces;
+                let mut number = 0;
+                let code = unsafe {
+                    $prices_at(
+                        starts.as_ptr(),
+                        starts.len(),
+                        ends.as_ptr(),
+                        ends.len(),
+                        values.as_ptr(),
+                        values.len(),
+                        starts.len(),
+                        points.as_ptr(),
+                        points.len(),
+                        out.values.as_mut_ptr(),
+                        out.values.len(),
+                        out.presences.as_mut_ptr(),
+                        out.presences.len(),
+                        &mut number,
+                    )
+                };
+                Answer { code, number }
+            }
+        }
+    };
+}
+
+readings!(u32, guineatwirl_seat_price_at, guineatwirl_seat_prices_at);
+readings!(i64, guineatwirl_instant_price_at, guineatwirl_instant_prices_at);
 
 unsafe extern "C" {
     fn guineatwirl_join_file(

@@ -33,7 +33,9 @@
 pub use crate::file::join_file_into;
 
 use crate::ffi::Answer;
-use crate::{EventColumns, LentLists, PairColumns, PieceColumns, Point, Refusal};
+use crate::{
+    EventColumns, LentLists, LentPieces, PairColumns, PieceColumns, Point, PriceColumns, Refusal,
+};
 
 /// Lists the events: every start and every end of a range, ordered by point. At one point all
 /// starts come before all ends, and in each the lists come in order.
@@ -284,6 +286,58 @@ pub fn multiway_symmetric_difference<P: Point>(
 ) -> Result<usize, Refusal> {
     let room = columns.room();
     told(P::multiway_symmetric_difference(lists, columns), lists, room, None)
+}
+
+/// The price at a point of pieces in columns, or none where nothing is on sale there: whatever a
+/// many-way join or a selection wrote, what its rule says of the lists at that point.
+///
+/// It is found by halving. Where the starts do not ascend, halving goes on all the same, and the
+/// price is that of the piece where it ends, or none where that piece does not have the point.
+///
+/// ```
+/// use guineatwirl::{LentPieces, lent};
+///
+/// let pieces = LentPieces { starts: &[1_i64, 6], ends: &[4, 9], values: &[100, 20] };
+/// assert_eq!(lent::price_at(pieces, 6), Some(20));
+/// assert_eq!(lent::price_at(pieces, 5), None);
+/// assert_eq!(lent::price_at(pieces, i64::MAX), None);
+/// ```
+#[must_use]
+pub fn price_at<P: Point>(pieces: LentPieces<'_, P>, point: P) -> Option<i64> {
+    P::price_at(pieces, point)
+}
+
+/// The prices at some points, as [`price_at`] gives them, and how many: a row for each, with 0 for
+/// a price that there is none of.
+///
+/// # Errors
+///
+/// [`Refusal::NoRoom`], where a column is shorter than the points.
+///
+/// ```
+/// use guineatwirl::{LentPieces, PriceColumns, Refusal, lent};
+///
+/// let pieces = LentPieces { starts: &[1_u32, 6], ends: &[4, 9], values: &[100, 20] };
+/// let mut columns = PriceColumns { values: &mut [0; 3], presences: &mut [0; 3] };
+/// assert_eq!(lent::prices_at(pieces, &[9, 5, 1], &mut columns), Ok(3));
+/// assert_eq!(*columns.values, [20, 0, 100]);
+///
+/// let refused = lent::prices_at(pieces, &[9; 4], &mut columns);
+/// assert_eq!(refused, Err(Refusal::NoRoom { needed: 4, room: 3 }));
+/// ```
+pub fn prices_at<P: Point>(
+    pieces: LentPieces<'_, P>,
+    points: &[P],
+    columns: &mut PriceColumns<'_>,
+) -> Result<usize, Refusal> {
+    let (room, needed) = (columns.room(), points.len());
+    match P::prices_at(pieces, points, columns) {
+        Answer { code: 0, number } if number == needed as u64 => Ok(needed),
+        Answer { code: 8, number } if number == needed as u64 => {
+            Err(Refusal::NoRoom { needed, room })
+        }
+        Answer { code, number } => Err(Refusal::Unforeseen { code, number }),
+    }
 }
 
 /// How many pieces were written, which there was room for, or why none.

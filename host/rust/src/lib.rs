@@ -23,6 +23,10 @@
 //! | [`multiway_symmetric_difference`] | in an odd number of lists | that of the last list there |
 //! | [`list_events`] | where a range starts or ends | that of the range |
 //!
+//! What a join or a selection wrote is read by [`lent::price_at`] at a point and by
+//! [`lent::prices_at`] at many: at each, the price is what the operation's rule says of the lists
+//! there. [`Prices`] holds the pieces of a vector to be read so.
+//!
 //! [`join_file`] does all of it for a tariff file of instants: bytes in, the printed text out. The
 //! program `house` of this package makes such files of lists that are typed as text, joins them and
 //! draws them.
@@ -44,17 +48,19 @@ mod file;
 mod lists;
 mod pieces;
 mod point;
+mod prices;
 mod refusal;
 mod whole;
 
 pub mod lent;
 
-pub use columns::{EventColumns, PairColumns, PieceColumns};
+pub use columns::{EventColumns, LentPieces, PairColumns, PieceColumns, PriceColumns};
 pub use combiner::Combiner;
 pub use file::{MOST_FILE, MOST_TEXT, join_file};
 pub use lists::{LentLists, Lists, Tariff};
 pub use pieces::{Event, Pair, Piece};
 pub use point::Point;
+pub use prices::Prices;
 pub use refusal::{Place, Refusal};
 pub use whole::{
     check, list_events, multiway_full_join, multiway_inner_join, multiway_symmetric_difference,

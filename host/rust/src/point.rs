@@ -1,6 +1,6 @@
 use core::fmt::{Debug, Display};
 
-use crate::ffi::Functions;
+use crate::ffi::{Functions, Readings};
 
 /// A point that a list can have a price for: a seat (`u32`) or an instant (`i64`).
 ///
@@ -12,7 +12,9 @@ use crate::ffi::Functions;
 /// assert_eq!(<u32 as Point>::LEAST, 0);
 /// assert_eq!(<i64 as Point>::GREATEST, i64::MAX);
 /// ```
-pub trait Point: Functions + Copy + Ord + Debug + Display + Send + Sync + 'static {
+pub trait Point:
+    Functions + Readings + Copy + Ord + Debug + Display + Send + Sync + 'static
+{
     /// The least point.
     const LEAST: Self;
 

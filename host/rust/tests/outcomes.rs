@@ -1,9 +1,9 @@
 //! Outcomes at the edges of what can be lent. The comparison with the crate has all the others.
 
 use guineatwirl::{
-    Combiner, LentLists, Lists, Piece, PieceColumns, Point, Refusal, Tariff, lent, list_events,
-    multiway_full_join, multiway_inner_join, multiway_symmetric_difference, multiway_union,
-    two_way_full_join, two_way_inner_join, two_way_left_join,
+    Combiner, LentLists, LentPieces, Lists, Piece, PieceColumns, Point, Prices, Refusal, Tariff,
+    lent, list_events, multiway_full_join, multiway_inner_join, multiway_symmetric_difference,
+    multiway_union, two_way_full_join, two_way_inner_join, two_way_left_join,
 };
 
 const NO_LISTS: [&[Tariff<u32>]; 0] = [];
@@ -80,5 +80,34 @@ fn columns_of_any_lengths_are_judged() {
         let mut columns = PieceColumns { starts: &mut [], ends: &mut [0], values: &mut [] };
         let refusal = lent::multiway_union(lists, &mut columns).unwrap_err();
         assert_eq!(refusal.code(), 4);
+    }
+}
+
+#[test]
+fn prices_at_the_ends_of_a_width() {
+    let list = [Tariff::new(i64::LEAST..=-1, i32::MIN), Tariff::new(1..=i64::GREATEST, i32::MAX)];
+    let prices = Prices::from_iter(multiway_full_join(Combiner::Sum, &[list; 16]).unwrap());
+    let points = [i64::LEAST, -1, 0, 1, i64::GREATEST];
+    let (low, high) = (Some(16 * i64::from(i32::MIN)), Some(16 * i64::from(i32::MAX)));
+    assert_eq!(prices.prices_at(&points), [low, low, None, high, high]);
+    assert_eq!(points.map(|point| prices.price_at(point)), [low, low, None, high, high]);
+}
+
+#[test]
+fn prices_of_columns_of_any_lengths() {
+    let (starts, ends, values) = ([1_u32, 6], [4, 9], [100, 20]);
+    for of_starts in 0..=2 {
+        for of_ends in 0..=2 {
+            for of_values in 0..=2 {
+                let pieces = LentPieces {
+                    starts: &starts[..of_starts],
+                    ends: &ends[..of_ends],
+                    values: &values[..of_values],
+                };
+                let all = of_starts.min(of_ends).min(of_values);
+                assert_eq!(lent::price_at(pieces, 1), (all >= 1).then_some(100));
+                assert_eq!(lent::price_at(pieces, 9), (all >= 2).then_some(20));
+            }
+        }
     }
 }

@@ -73,6 +73,7 @@ fn main() {
     for row in &files {
         println!("{}", file_line(row));
     }
+    print!("\n{}", oracle::price_bench::table());
 }
 
 fn rows(operations: &[Operation], list_counts: &[u64], ranges: usize) -> Vec<Row> {

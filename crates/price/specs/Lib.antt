@@ -1,0 +1,3 @@
+-- What the readings of prices say.
+pub mod Reading
+pub mod Batch

@@ -1,0 +1,92 @@
+// The price at a point of lent columns of instants, and the prices at many.
+
+use integer::instant::Point;
+use integer::instant::key;
+use integer::instant::key_at;
+use price::Price;
+use price::charged;
+use price::places;
+use price::written_presence;
+use price::written_value;
+use rules::Answer;
+use rules::shorter;
+ghost use Prim.Native.Nat.{_<_, _≤_};
+ghost use mathlib.Core.Path.{_≡_};
+ghost use lib.ListN.{length};
+ghost use Rattle.rules.specs.Lists.{instants, keys};
+ghost use Rattle.rules.specs.Answer.{leaves};
+ghost use Rattle.rules.specs.Merged as merged;
+ghost use Rattle.price.specs.Reading.{said, found, price-at};
+ghost use Rattle.price.specs.Batch.{before, after, prices-at};
+
+// The place that halving finds among the first starts, so many of them: where they ascend, the last that is not beyond the point.
+fn find(start: &[Point], among: usize, point: u64) -> usize
+    requires { ⌜ (0 < among) × (among ≤ length (now start)) ⌝ }
+    ensures { λ r. ⌜ (r ≡ found (keys instants (now (start .entry))) point among) × (r < among) ⌝ }
+{
+    let mut base: usize = 0;
+    let mut size = among;
+    let mut half = size / 2;
+    while half > 0 {
+        let middle = base + half;
+        base = if key_at(start, middle) <= point {
+            middle
+        } else {
+            base
+        };
+        size -= half;
+        half = size / 2;
+    }
+    base
+}
+
+// The price at the point with a key.
+fn price_at_key(start: &[Point], end: &[Point], value: &[i64], pieces: usize, point: u64) -> Price
+    ensures { λ r. ⌜ said r ≡ price-at instants (merged.before «start» «end» «value») pieces point ⌝ }
+{
+    let counted = places(pieces, start.len(), end.len(), value.len());
+    if counted == 0 {
+        return Price::Nothing;
+    }
+    let place = find(start, counted, point);
+    charged(
+        key_at(start, place),
+        key_at(end, place),
+        value[place],
+        point,
+    )
+}
+
+// The price at a point: of the first pieces of the columns, so many of them, what the one that has it says.
+pub fn price_at(start: &[Point], end: &[Point], value: &[i64], pieces: usize, point: Point) -> Price
+    ensures { λ r. ⌜ said r ≡ price-at instants (merged.before «start» «end» «value») pieces (instants .key point) ⌝ }
+{
+    price_at_key(start, end, value, pieces, key(point))
+}
+
+// The prices at some points, a row for each: its value and 1, or 0 and 0 where nothing is on sale.
+pub fn prices_at(
+    start: &[Point],
+    end: &[Point],
+    value: &[i64],
+    pieces: usize,
+    points: &[Point],
+    out_value: &mut [i64],
+    out_presence: &mut [u8],
+) -> Answer
+    ensures { λ r. ⌜ leaves r (after «out_value» «out_presence»)
+        ≡ prices-at instants (merged.before «start» «end» «value») pieces (now (points .entry)) (before «out_value» «out_presence») ⌝ }
+{
+    let rows = points.len();
+    if shorter(out_value.len(), out_presence.len()) < rows {
+        return Answer::NoRoom(rows);
+    }
+    let mut i: usize = 0;
+    while i < rows {
+        let price = price_at_key(start, end, value, pieces, key_at(points, i));
+        out_value[i] = written_value(price);
+        out_presence[i] = written_presence(price);
+        i += 1;
+    }
+    Answer::Done(rows)
+}
