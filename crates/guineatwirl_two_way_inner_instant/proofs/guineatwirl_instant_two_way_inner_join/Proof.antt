@@ -1,11 +1,11 @@
--- `guineatwirl_seat_two_way_inner_join` meets its contract. Assumes nothing.
+-- `guineatwirl_instant_two_way_inner_join` meets its contract. Assumes nothing.
 use borrow.Author.Needs.{needs}
 use Rattle.rules.proofs.Said.{said}
-use Rattle.guineatwirl_two_way_seat.proofs.guineatwirl_seat_two_way_inner_join.Statement.{statement}
-use Rattle.guineatwirl_two_way_seat.proofs.guineatwirl_seat_two_way_inner_join.Tie as tie
+use Rattle.guineatwirl_two_way_inner_instant.proofs.guineatwirl_instant_two_way_inner_join.Statement.{statement}
+use Rattle.guineatwirl_two_way_inner_instant.proofs.guineatwirl_instant_two_way_inner_join.Tie as tie
 
-pub guineatwirl-seat-two-way-inner-join-spec : {M : Type 1} → statement M
-guineatwirl-seat-two-way-inner-join-spec =
+pub guineatwirl-instant-two-way-inner-join-spec : {M : Type 1} → statement M
+guineatwirl-instant-two-way-inner-join-spec =
     tie.close
     (tie.spec
     (λ c κs. search needs)
