@@ -27,29 +27,31 @@ module _ (start : ℕ → ℕ) (p : ℕ) where
   turned-down : (b n : ℕ) → p < start (b + n / 2) → turned b n ≡ b
   turned-down b n h = rw (lt-leb (start (b + n / 2)) p h)
 
-  -- 16 places and fewer stay
-  still : (turns b n : ℕ) → n ≤ 16 → halve start p turns b n ≡ b
-  unfolding halve
-  still zero b n h = refl
-  still (suc turns) b n h = rw (le-ltb 16 n h)
+  -- halving while more than m places are left
+  module _ (m : ℕ) where
+    -- m places and fewer stay
+    still : (turns b n : ℕ) → n ≤ m → halve start p m turns b n ≡ b
+    unfolding halve
+    still zero b n h = refl
+    still (suc turns) b n h = rw (le-ltb m n h)
 
-  halved : (turns b n : ℕ) → 16 < n → halve start p (suc turns) b n ≡ halve start p turns (turned b n) (n - n / 2)
-  unfolding halve
-  halved turns b n h = rw (lt-ltb 16 n h)
+    halved : (turns b n : ℕ) → m < n → halve start p m (suc turns) b n ≡ halve start p m turns (turned b n) (n - n / 2)
+    unfolding halve
+    halved turns b n h = rw (lt-ltb m n h)
 
-  -- more turns change nothing
-  more : (turns turns' b n : ℕ) → n ≤ turns + 16 → turns ≤ turns' → halve start p turns b n ≡ halve start p turns' b n
-  more zero turns' b n h l = still zero b n (omega arith) ∙ sym (still turns' b n (omega arith))
-  more (suc turns) zero b n h l = absurd (omega arith)
-  more (suc turns) (suc turns') b n h l = go (le-or-lt n 16) (λ z. more turns turns' (turned b n) (n - n / 2) (omega arith) (omega arith))
-    where
-      go : (n ≤ 16) ⊎ (16 < n) → (16 < n → halve start p turns (turned b n) (n - n / 2) ≡ halve start p turns' (turned b n) (n - n / 2)) → halve start p (suc turns) b n ≡ halve start p (suc turns') b n
-      go (inl z) rest = still (suc turns) b n z ∙ sym (still (suc turns') b n z)
-      go (inr z) rest = halved turns b n z ∙ rest z ∙ sym (halved turns' b n z)
+    -- more turns change nothing
+    more : 0 < m → (turns turns' b n : ℕ) → n ≤ turns + m → turns ≤ turns' → halve start p m turns b n ≡ halve start p m turns' b n
+    more o zero turns' b n h l = still zero b n (omega arith) ∙ sym (still turns' b n (omega arith))
+    more o (suc turns) zero b n h l = absurd (omega arith)
+    more o (suc turns) (suc turns') b n h l = go (le-or-lt n m) (λ z. more o turns turns' (turned b n) (n - n / 2) (omega arith) (omega arith))
+      where
+        go : (n ≤ m) ⊎ (m < n) → (m < n → halve start p m turns (turned b n) (n - n / 2) ≡ halve start p m turns' (turned b n) (n - n / 2)) → halve start p m (suc turns) b n ≡ halve start p m (suc turns') b n
+        go (inl z) rest = still (suc turns) b n z ∙ sym (still (suc turns') b n z)
+        go (inr z) rest = halved turns b n z ∙ rest z ∙ sym (halved turns' b n z)
 
-  turn : (b n : ℕ) → 16 < n → halve start p n b n ≡ halve start p (n - n / 2) (turned b n) (n - n / 2)
-  turn b zero h = absurd (omega arith)
-  turn b (suc n) h = halved n b (suc n) h ∙ sym (more (suc n - suc n / 2) n (turned b (suc n)) (suc n - suc n / 2) (omega arith) (omega arith))
+    turn : 0 < m → (b n : ℕ) → m < n → halve start p m n b n ≡ halve start p m (n - n / 2) (turned b n) (n - n / 2)
+    turn o b zero h = absurd (omega arith)
+    turn o b (suc n) h = halved n b (suc n) h ∙ sym (more o (suc n - suc n / 2) n (turned b (suc n)) (suc n - suc n / 2) (omega arith) (omega arith))
 
   begun-yes : (i : ℕ) → start i ≤ p → begun start p i ≡ 1
   begun-yes i h = rw (le-leb (start i) p h)
@@ -73,23 +75,26 @@ module _ (start : ℕ → ℕ) (p : ℕ) where
 
   -- starts that ascend, of n places
   module _ (n : ℕ) (ascend : (i j : ℕ) → i ≤ j → j < n → start i ≤ start j) where
-    -- the last is one of the 16 places from r on
-    record Near (r : ℕ) : Type 0 where
+    -- the last is one of the m places from r on
+    record Near (m r : ℕ) : Type 0 where
       among : r < n
       reached : start 0 ≤ p → start r ≤ p
-      later : (j : ℕ) → r + 16 ≤ j → j < n → p < start j
+      later : (j : ℕ) → r + m ≤ j → j < n → p < start j
 
-    narrow : (turns b k : ℕ) → 0 < k → k ≤ turns + 16 → b + k ≤ n → (start 0 ≤ p → start b ≤ p) → ((j : ℕ) → b + k ≤ j → j < n → p < start j) → Near (halve start p turns b k)
-    narrow zero b k h t l low high = rw (still zero b k (omega arith)) (record { among = omega arith; reached = low; later = λ j a y. high j (omega arith) y })
-    narrow (suc turns) b k h t l low high =
-        go (le-or-lt k 16) (le-or-lt (start (b + k / 2)) p)
-        (λ z y. narrow turns (b + k / 2) (k - k / 2) (omega arith) (omega arith) (omega arith) (λ x. y) (λ j a x. high j (omega arith) x))
-        (λ z y. narrow turns b (k - k / 2) (omega arith) (omega arith) (omega arith) low (λ j a x. omega (arith, y, ascend (b + k / 2) j (omega arith) x)))
+    narrow : (m : ℕ) → 0 < m → (turns b k : ℕ) → 0 < k → k ≤ turns + m → b + k ≤ n → (start 0 ≤ p → start b ≤ p) → ((j : ℕ) → b + k ≤ j → j < n → p < start j) → Near m (halve start p m turns b k)
+    narrow m o zero b k h t l low high = rw (still m zero b k (omega arith)) (record { among = omega arith; reached = low; later = λ j a y. high j (omega arith) y })
+    narrow m o (suc turns) b k h t l low high =
+        go (le-or-lt k m) (le-or-lt (start (b + k / 2)) p)
+        (λ z y. narrow m o turns (b + k / 2) (k - k / 2) (omega arith) (omega arith) (omega arith) (λ x. y) (λ j a x. high j (omega arith) x))
+        (λ z y. narrow m o turns b (k - k / 2) (omega arith) (omega arith) (omega arith) low (λ j a x. omega (arith, y, ascend (b + k / 2) j (omega arith) x)))
       where
-        go : (k ≤ 16) ⊎ (16 < k) → (start (b + k / 2) ≤ p) ⊎ (p < start (b + k / 2)) → (16 < k → start (b + k / 2) ≤ p → Near (halve start p turns (b + k / 2) (k - k / 2))) → (16 < k → p < start (b + k / 2) → Near (halve start p turns b (k - k / 2))) → Near (halve start p (suc turns) b k)
-        go (inl z) y up down = rw (still (suc turns) b k z) (record { among = omega arith; reached = low; later = λ j a x. high j (omega arith) x })
-        go (inr z) (inl y) up down = rw (halved turns b k z, turned-up b k y) (up z y)
-        go (inr z) (inr y) up down = rw (halved turns b k z, turned-down b k y) (down z y)
+        go : (k ≤ m) ⊎ (m < k) → (start (b + k / 2) ≤ p) ⊎ (p < start (b + k / 2)) → (m < k → start (b + k / 2) ≤ p → Near m (halve start p m turns (b + k / 2) (k - k / 2))) → (m < k → p < start (b + k / 2) → Near m (halve start p m turns b (k - k / 2))) → Near m (halve start p m (suc turns) b k)
+        go (inl z) y up down = rw (still m (suc turns) b k z) (record { among = omega arith; reached = low; later = λ j a x. high j (omega arith) x })
+        go (inr z) (inl y) up down = rw (halved m turns b k z, turned-up b k y) (up z y)
+        go (inr z) (inr y) up down = rw (halved m turns b k z, turned-down b k y) (down z y)
+
+    near : (m : ℕ) → 0 < m → 0 < n → Near m (halve start p m n 0 n)
+    near m o h = narrow m o n 0 n h (omega arith) (omega arith) (λ z. z) (λ j a z. absurd (omega arith))
 
     -- of the k places after b, the first c have begun
     record Counted (b k c : ℕ) : Type 0 where
@@ -114,32 +119,31 @@ module _ (start : ℕ → ℕ) (p : ℕ) where
             last j a x (inl y) = i .later j (omega arith) y
             last j a x (inr y) = beyond-same (b + suc k) j (omega arith) z
 
-    pub found-last : 0 < n → Last start p n (found start p n)
-    found-last h = from (halve start p n 0 n) (narrow n 0 n h (omega arith) (omega arith) (λ z. z) (λ j a z. absurd (omega arith)))
+    -- among the 16 places from b on, those before r
+    last-of : (r b : ℕ) → 16 ≤ n → Near 16 r → b ≡ min r (n - 16) → (c : ℕ) → Counted b 15 c → Last start p n (b + c)
+    last-of r b h near e c i =
+        record {
+          among = omega (arith, i .few);
+          reached = λ z. i .reached (omega (arith, near .reached z, ascend b r (omega arith) (near .among)));
+          later = λ j a z. rest j a z (le-or-lt j (b + 15));
+        }
       where
-        from : (r : ℕ) → Near r → let b = min r (n - 16) in Last start p n (b + count start p b (min n 16 - 1))
-        from r near = to (min r (n - 16)) (min n 16 - 1) refl refl
-          where
-            to : (b k : ℕ) → b ≡ min r (n - 16) → k ≡ min n 16 - 1 → Last start p n (b + count start p b k)
-            to b k e f = ends (count start p b k) (counts b k (omega arith))
-              where
-                ends : (c : ℕ) → Counted b k c → Last start p n (b + c)
-                ends c i =
-                    record {
-                      among = omega (arith, i .few);
-                      reached = λ z. i .reached (omega (arith, near .reached z, ascend b r (omega arith) (near .among)));
-                      later = λ j a z. rest j a z (le-or-lt j (b + k));
-                    }
-                  where
-                    rest : (j : ℕ) → b + c < j → j < n → (j ≤ b + k) ⊎ (b + k < j) → p < start j
-                    rest j a z (inl y) = i .later j a y
-                    rest j a z (inr y) = near .later j (omega arith) z
+        rest : (j : ℕ) → b + c < j → j < n → (j ≤ b + 15) ⊎ (b + 15 < j) → p < start j
+        rest j a z (inl y) = i .later j a y
+        rest j a z (inr y) = near .later j (omega arith) z
+
+    pub found-last : 0 < n → Last start p n (found start p n)
+    found-last h = go (le-or-lt 16 n)
+      where
+        go : (16 ≤ n) ⊎ (n < 16) → Last start p n (found start p n)
+        go (inl z) = let b = min (halve start p 16 n 0 n) (n - 16) in rw (le-ltb n 16 z) (last-of _ b z (near 16 (omega arith) h) refl _ (counts b 15 (omega arith)))
+        go (inr z) = let r = near 1 (omega arith) h in rw (lt-ltb n 16 z) (record { among = r .among; reached = r .reached; later = λ j a y. r .later j (omega arith) y })
 
 -- what a loop keeps that halves: where it comes to among the n places from b on is where it comes to among all
-pub record Halved (start : ℕ → ℕ) (p all b n : ℕ) : Type 0 where
+pub record Halved (start : ℕ → ℕ) (p m all b n : ℕ) : Type 0 where
   pub some : 0 < n
   pub inside-all : b + n ≤ all
-  pub same : halve start p all 0 all ≡ halve start p n b n
+  pub same : halve start p m all 0 all ≡ halve start p m n b n
 
 -- what a loop keeps that counts: of the k places after b it has seen i, and c of them have begun
 pub record Counting (start : ℕ → ℕ) (p b k i c : ℕ) : Type 0 where
@@ -148,20 +152,20 @@ pub record Counting (start : ℕ → ℕ) (p b k i c : ℕ) : Type 0 where
   pub is : c ≡ count start p b i
 
 module _ {start : ℕ → ℕ} {p : ℕ} where
-  pub whole : (all : ℕ) → 0 < all → Halved start p all 0 all
-  whole all h = record { some = h; inside-all = omega arith; same = refl }
+  pub whole : (m all : ℕ) → 0 < all → Halved start p m all 0 all
+  whole m all h = record { some = h; inside-all = omega arith; same = refl }
 
-  module _ {all b n : ℕ} (i : Halved start p all b n) where
+  module _ {m all b n : ℕ} (i : Halved start p m all b n) where
     -- a turn, with the start at the middle
-    module _ (h : 16 < n) (k : ℕ) (e : k ≡ start (b + n / 2)) where
-      pub upper : k ≤ p → Halved start p all (b + n / 2) (n - n / 2)
-      upper l = let q = turned-up start p b n (omega arith) in record { some = omega arith; inside-all = omega (arith, i .inside-all); same = i .same ∙ turn start p b n h ∙ rw q }
+    module _ (o : 0 < m) (h : m < n) (k : ℕ) (e : k ≡ start (b + n / 2)) where
+      pub upper : k ≤ p → Halved start p m all (b + n / 2) (n - n / 2)
+      upper l = let q = turned-up start p b n (omega arith) in record { some = omega arith; inside-all = omega (arith, i .inside-all); same = i .same ∙ turn start p m o b n h ∙ rw q }
 
-      pub lower : p < k → Halved start p all b (n - n / 2)
-      lower l = let q = turned-down start p b n (omega arith) in record { some = omega arith; inside-all = omega (arith, i .inside-all); same = i .same ∙ turn start p b n h ∙ rw q }
+      pub lower : p < k → Halved start p m all b (n - n / 2)
+      lower l = let q = turned-down start p b n (omega arith) in record { some = omega arith; inside-all = omega (arith, i .inside-all); same = i .same ∙ turn start p m o b n h ∙ rw q }
 
-    pub ended : n ≤ 16 → b ≡ halve start p all 0 all
-    ended h = sym (i .same ∙ still start p n b n h)
+    pub ended : n ≤ m → (b ≡ halve start p m all 0 all) × (b < all)
+    ended h = (sym (i .same ∙ still start p m n b n h), omega (arith, i .some, i .inside-all))
 
   pub none-seen : (b k : ℕ) → Counting start p b k 0 0
   unfolding count
@@ -174,10 +178,10 @@ module _ {start : ℕ → ℕ} {p : ℕ} where
   pub all-seen : {b k i c : ℕ} → Counting start p b k i c → k ≤ i → (c ≡ count start p b k) × (c ≤ k)
   all-seen {b} {k} {i} {c} w h = let q : i ≡ k = omega (arith, w .seen) in (rw q at (w .is), omega (arith, w .few, w .seen))
 
--- fewer than 16 are counted, and of 16 and more those to which halving comes
+-- of fewer than 16 by halving alone, of more by halving and counting
 module _ (start : ℕ → ℕ) (p : ℕ) where
-  pub found-few : {n c : ℕ} → n < 16 → c ≡ count start p 0 (n - 1) → c ≡ found start p n
-  found-few {n} {c} h e = let q : min (halve start p n 0 n) (n - 16) ≡ 0 = omega arith in let k : min n 16 - 1 ≡ n - 1 = omega arith in rw (q, k) (omega (arith, e))
+  pub found-few : {n r : ℕ} → n < 16 → r ≡ halve start p 1 n 0 n → r ≡ found start p n
+  found-few {n} {r} h e = rw (lt-ltb n 16 h) e
 
-  pub found-many : {n m b c : ℕ} → 16 ≤ n → m ≡ halve start p n 0 n → b ≡ min m (n - 16) → c ≡ count start p b 15 → b + c ≡ found start p n
-  found-many {n} {m} {b} {c} h e f g = let k : min n 16 - 1 ≡ 15 = omega arith in rw (k, ← e, ← f, ← g)
+  pub found-many : {n r b c : ℕ} → 16 ≤ n → r ≡ halve start p 16 n 0 n → b ≡ min r (n - 16) → c ≡ count start p b 15 → b + c ≡ found start p n
+  found-many {n} {r} {b} {c} h e f g = rw (le-ltb n 16 h, ← e, ← f, ← g)

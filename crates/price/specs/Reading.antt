@@ -18,11 +18,11 @@ said Nothing = none
 said (Pence v) = some v
 
 module _ (start : ℕ → ℕ) (p : ℕ) where
-  -- so many halvings of the n places from b on, while they are more than 16: to the upper half where its first start is not beyond p,
+  -- so many halvings of the n places from b on, while they are more than m: to the upper half where its first start is not beyond p,
   -- else to the lower
-  unfoldable pub halve : ℕ → ℕ → ℕ → ℕ
-  halve zero b n = b
-  halve (suc turns) b n = let h = n / 2 in cond (ltb 16 n) (halve turns (cond (leb (start (b + h)) p) (b + h) b) (n - h)) b
+  unfoldable pub halve : ℕ → ℕ → ℕ → ℕ → ℕ
+  halve m zero b n = b
+  halve m (suc turns) b n = let h = n / 2 in cond (ltb m n) (halve m turns (cond (leb (start (b + h)) p) (b + h) b) (n - h)) b
 
   -- 1 where the start at a place is not beyond p, else 0
   abbrev pub begun : ℕ → ℕ
@@ -33,10 +33,10 @@ module _ (start : ℕ → ℕ) (p : ℕ) where
   count b zero = 0
   count b (suc n) = count b n + begun (b + suc n)
 
-  -- the one of n places that is found: halvings come to the 16 from b on, or to all where there are fewer, and those begun after b are
-  -- counted
+  -- the one of n places that is found: of fewer than 16 by halving alone; of more, halving comes to 16, and those after the first of
+  -- them that have begun are counted
   abbrev pub found : ℕ → ℕ
-  found n = let b = min (halve n 0 n) (n - 16) in b + count b (min n 16 - 1)
+  found n = let b = min (halve 16 n 0 n) (n - 16) in cond (ltb n 16) (halve 1 n 0 n) (b + count b 15)
 
 -- what a piece says of a point
 abbrev pub charge : {A : Type 0} → Piece A → ℕ → Option A

@@ -41,14 +41,14 @@ fn count(start: &[Point], base: usize, places: usize, point: u64) -> usize
     counted
 }
 
-// The place to which halving comes while more than 16 are left.
-fn halve(start: &[Point], among: usize, point: u64) -> usize
-    requires { ⌜ (0 < among) × (among ≤ length (now start)) ⌝ }
-    ensures { λ r. ⌜ r ≡ halve (keys instants (now (start .entry))) point among 0 among ⌝ }
+// The place to which halving comes while more than so many are left.
+fn halve(start: &[Point], among: usize, most: usize, point: u64) -> usize
+    requires { ⌜ (0 < most) × (0 < among) × (among ≤ length (now start)) ⌝ }
+    ensures { λ r. ⌜ (r ≡ halve (keys instants (now (start .entry))) point most among 0 among) × (r < among) ⌝ }
 {
     let mut base: usize = 0;
     let mut size = among;
-    while size > 16 {
+    while size > most {
         let half = size / 2;
         let middle = base + half;
         base = if key_at(start, middle) <= point {
@@ -67,9 +67,9 @@ fn find(start: &[Point], among: usize, point: u64) -> usize
     ensures { λ r. ⌜ (r ≡ found (keys instants (now (start .entry))) point among) × (r < among) ⌝ }
 {
     if among < 16 {
-        return count(start, 0, among - 1, point);
+        return halve(start, among, 1, point);
     }
-    let base = shorter(halve(start, among, point), among - 16);
+    let base = shorter(halve(start, among, 16, point), among - 16);
     base + count(start, base, 15, point)
 }
 

@@ -1,4 +1,4 @@
--- `find` meets its contract: fewer than 16 are counted, and of 16 and more those to which halving comes. Assumes nothing.
+-- `find` meets its contract: by halving alone, or by halving and counting. Assumes nothing.
 use native.Mathlib.Omega.{arith}
 use borrow.Author.Needs.{needs}
 use Rattle.rules.specs.Lists.{instants, keys}
@@ -10,12 +10,11 @@ pub find-spec : {M : Type 1} → statement M
 find-spec =
     tie.close
     (tie.spec
-    (λ c. search needs)
     (λ c κs. search needs)
     -- fewer than 16
     (λ c.
     let s : tie.Start = search in
-    (found-few (keys instants (s .args .start .now)) (s .args .point) (omega arith) (c .count .ensures .0), omega (arith, c .count .ensures .1)))
+    (found-few (keys instants (s .args .start .now)) (s .args .point) (omega arith) (c .halve .ensures .0), c .halve .ensures .1))
     (λ c κs. search needs)
     (λ c κs. search needs)
     (λ c κs. search needs)
@@ -24,6 +23,6 @@ find-spec =
     (λ c.
     let s : tie.Start = search in
     let b = c .before in (
-      found-many (keys instants (s .args .start .now)) (s .args .point) (omega arith) (b .before .halve .ensures) (b .shorter .ensures) (c .count2 .ensures .0),
-      omega (arith, b .shorter .ensures, c .count2 .ensures .1),
+      found-many (keys instants (s .args .start .now)) (s .args .point) (omega arith) (b .before .halve2 .ensures .0) (b .shorter .ensures) (c .count .ensures .0),
+      omega (arith, b .shorter .ensures, c .count .ensures .1),
     )))

@@ -8,10 +8,10 @@ use Rattle.price_instant.proofs.halve.Statement.{statement}
 use Rattle.price_instant.proofs.halve.Tie as tie
 
 abbrev Inv-loop : tie.InvT-loop
-Inv-loop start among point base₀ size₀ base size = Halved (keys instants start) point among base size
+Inv-loop start among most point base₀ size₀ base size = Halved (keys instants start) point most among base size
 
 abbrev μ-loop : tie.MeasureT-loop
-μ-loop start among point base₀ size₀ base size = size
+μ-loop start among most point base₀ size₀ base size = size
 
 pub halve-spec : {M : Type 1} → statement M
 halve-spec =
@@ -19,7 +19,7 @@ halve-spec =
     (tie.spec
     Inv-loop
     μ-loop
-    (λ c. whole _ (omega arith))
+    (λ c. whole _ _ (omega arith))
     (λ c. search needs)
     (λ c κs. search needs)
     (λ c. search needs)
@@ -28,7 +28,7 @@ halve-spec =
     let l : tie.At-loop Inv-loop μ-loop = search in
     let k : tie.After-key-at Inv-loop μ-loop = search in
     ⊎-elim
-    (λ u. rw (u .1) (upper (l .loop .inv) (omega arith) _ (k .key-at .ensures .is) (omega arith)))
-    (λ u. rw (u .1) (lower (l .loop .inv) (omega arith) _ (k .key-at .ensures .is) (omega arith)))
+    (λ u. rw (u .1) (upper (l .loop .inv) (omega arith) (omega arith) _ (k .key-at .ensures .is) (omega arith)))
+    (λ u. rw (u .1) (lower (l .loop .inv) (omega arith) (omega arith) _ (k .key-at .ensures .is) (omega arith)))
     (c .if1 .came))
     (λ c. ended (c .before .loop .inv) (omega arith)))
