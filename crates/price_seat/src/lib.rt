@@ -66,11 +66,11 @@ fn find(start: &[Point], among: usize, point: u64) -> usize
     requires { ⌜ (0 < among) × (among ≤ length (now start)) ⌝ }
     ensures { λ r. ⌜ (r ≡ found (keys seats (now (start .entry))) point among) × (r < among) ⌝ }
 {
-    if among < 16 {
-        return halve(start, among, 1, point);
+    if among >= 16 {
+        let base = shorter(halve(start, among, 16, point), among - 16);
+        return base + count(start, base, 15, point);
     }
-    let base = shorter(halve(start, among, 16, point), among - 16);
-    base + count(start, base, 15, point)
+    halve(start, among, 1, point)
 }
 
 // The price at the point with a key.

@@ -11,11 +11,6 @@ find-spec =
     tie.close
     (tie.spec
     (λ c κs. search needs)
-    -- fewer than 16
-    (λ c.
-    let s : tie.Start = search in
-    (found-few (keys instants (s .args .start .now)) (s .args .point) (omega arith) (c .halve .ensures .0), c .halve .ensures .1))
-    (λ c κs. search needs)
     (λ c κs. search needs)
     (λ c κs. search needs)
     (λ c. search needs)
@@ -23,6 +18,11 @@ find-spec =
     (λ c.
     let s : tie.Start = search in
     let b = c .before in (
-      found-many (keys instants (s .args .start .now)) (s .args .point) (omega arith) (b .before .halve2 .ensures .0) (b .shorter .ensures) (c .count .ensures .0),
+      found-many (keys instants (s .args .start .now)) (s .args .point) (omega arith) (b .before .halve .ensures .0) (b .shorter .ensures) (c .count .ensures .0),
       omega (arith, b .shorter .ensures, c .count .ensures .1),
-    )))
+    ))
+    (λ c κs. search needs)
+    -- fewer
+    (λ c.
+    let s : tie.Start = search in
+    (found-few (keys instants (s .args .start .now)) (s .args .point) (omega arith) (c .halve2 .ensures .0), c .halve2 .ensures .1)))
