@@ -119,7 +119,7 @@ module _ (start : ℕ → ℕ) (p : ℕ) where
             last j a x (inl y) = i .later j (omega arith) y
             last j a x (inr y) = beyond-same (b + suc k) j (omega arith) z
 
-    -- among the 16 places from b on, those before r
+    -- the last is one of the 16 places from b on, and those counted come to it
     last-of : (r b : ℕ) → 16 ≤ n → Near 16 r → b ≡ min r (n - 16) → (c : ℕ) → Counted b 15 c → Last start p n (b + c)
     last-of r b h near e c i =
         record {
