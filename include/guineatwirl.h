@@ -296,8 +296,8 @@ static inline uint8_t guineatwirl_seat_symmetric_difference(
 }
 
 /* The price at a point: 1 comes back and *price is the value of the piece that has it, or 0 and *price is 0 where none does. The first
-   places of the columns are read, pieces of them or as many as all columns have. The piece is found by halving; where pieces do not
-   ascend, halving goes on all the same, and the piece is that where it ends. */
+   places of the columns are read, pieces of them or as many as all columns have. The piece is found by halving, and from 16
+   pieces on by counting at the end; where pieces do not ascend, the search goes on all the same, and the piece is that where it ends. */
 uint8_t guineatwirl_seat_price_at(
     const uint32_t *start, size_t start_len, const uint32_t *end, size_t end_len, const int64_t *value, size_t value_len,
     size_t pieces, uint32_t point, int64_t *price);
@@ -486,8 +486,8 @@ static inline uint8_t guineatwirl_instant_symmetric_difference(
 }
 
 /* The price at a point: 1 comes back and *price is the value of the piece that has it, or 0 and *price is 0 where none does. The first
-   places of the columns are read, pieces of them or as many as all columns have. The piece is found by halving; where pieces do not
-   ascend, halving goes on all the same, and the piece is that where it ends. */
+   places of the columns are read, pieces of them or as many as all columns have. The piece is found by halving, and from 16
+   pieces on by counting at the end; where pieces do not ascend, the search goes on all the same, and the piece is that where it ends. */
 uint8_t guineatwirl_instant_price_at(
     const int64_t *start, size_t start_len, const int64_t *end, size_t end_len, const int64_t *value, size_t value_len,
     size_t pieces, int64_t point, int64_t *price);

@@ -1,6 +1,6 @@
 //! Readings of prices. After a join or a selection each is held against the rules at its point and
-//! against `partition_point` over the columns; over columns of any kind, against halving written
-//! out.
+//! against `partition_point` over the columns; over columns of any kind, against the search
+//! written out.
 
 use guineatwirl::{LentPieces, PriceColumns, Refusal, lent};
 
@@ -92,7 +92,7 @@ fn of_any<T: Proved>(random: &mut Random) -> Result<u64, String> {
     let values = (0..length).map(|_| random.word() as i64).collect();
     let held = Held { starts, ends, values };
     let points = points(random, &[&held.starts, &held.ends]);
-    held.read(random, &points, |point| held.halved(point))
+    held.read(random, &points, |point| held.searched(point))
 }
 
 /// The points of some columns and their neighbours, both ends of the width, and others.
@@ -164,7 +164,7 @@ impl<T: Proved> Held<T> {
     }
 
     /// The price by the definition: what the piece at the place found says of the point.
-    fn halved(&self, point: T) -> Option<i64> {
+    fn searched(&self, point: T) -> Option<i64> {
         let places = self.starts.len().min(self.ends.len()).min(self.values.len());
         let place = found(&self.starts[..places], point);
         let holds = |&place: &usize| self.starts[place] <= point && point <= self.ends[place];
@@ -172,13 +172,25 @@ impl<T: Proved> Held<T> {
     }
 }
 
-/// The place that is left when starts are halved: the upper half is kept where its first start is
-/// not beyond the point, else as many from the front as the upper half has.
+/// The place that is found: fewer than 16 starts are halved until one is left. More are halved until
+/// no more than 16 are left, and of the 15 after the first of those, or after the 16th from the end,
+/// as many are passed as are not beyond the point.
 fn found<T: Point>(starts: &[T], point: T) -> usize {
-    let half = starts.len() / 2;
-    if half == 0 {
+    if starts.len() < 16 {
+        return halved(starts, 1, point);
+    }
+    let first = halved(starts, 16, point).min(starts.len() - 16);
+    first + starts[first + 1..first + 16].iter().filter(|&&start| start <= point).count()
+}
+
+/// The first of the places that are left when starts are halved until so many are left: the upper
+/// half is kept where its first start is not beyond the point, else as many from the front as the
+/// upper half has.
+fn halved<T: Point>(starts: &[T], most: usize, point: T) -> usize {
+    if starts.len() <= most {
         return 0;
     }
+    let half = starts.len() / 2;
     let (front, upper) = (&starts[..starts.len() - half], &starts[half..]);
-    if upper[0] <= point { half + found(upper, point) } else { found(front, point) }
+    if upper[0] <= point { half + halved(upper, most, point) } else { halved(front, most, point) }
 }

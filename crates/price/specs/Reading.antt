@@ -1,4 +1,4 @@
--- The price at a point of columns with pieces: the place that halving finds, and what the piece there says of the point. Assumes nothing.
+-- The price at a point of columns with pieces: the place that is found, and what the piece there says of the point. Assumes nothing.
 use Prim.Native.Nat.{ℕ, zero, suc, _+_, _-_, _/_, min}
 use mathlib.Core.Path.{_≡_}
 use mathlib.Core.Bool.{cond}
@@ -18,14 +18,25 @@ said Nothing = none
 said (Pence v) = some v
 
 module _ (start : ℕ → ℕ) (p : ℕ) where
-  -- so many halvings of the n places from b on: to the upper half where its first start is not beyond p, else to the lower
-  unfoldable pub halve : ℕ → ℕ → ℕ → ℕ
-  halve zero b n = b
-  halve (suc turns) b n = let h = n / 2 in halve turns (cond (leb (start (b + h)) p) (b + h) b) (n - h)
+  -- so many halvings of the n places from b on, while they are more than m: to the upper half where its first start is not beyond p,
+  -- else to the lower
+  unfoldable pub halve : ℕ → ℕ → ℕ → ℕ → ℕ
+  halve m zero b n = b
+  halve m (suc turns) b n = let h = n / 2 in cond (ltb m n) (halve m turns (cond (leb (start (b + h)) p) (b + h) b) (n - h)) b
 
-  -- the one of n places that is left: n halvings are enough
+  -- 1 where the start at a place is not beyond p, else 0
+  abbrev pub begun : ℕ → ℕ
+  begun i = cond (leb (start i) p) 1 0
+
+  -- how many of the n places after b have begun
+  unfoldable pub count : ℕ → ℕ → ℕ
+  count b zero = 0
+  count b (suc n) = count b n + begun (b + suc n)
+
+  -- the one of n places that is found: of fewer than 16 by halving alone; of more, halving comes to 16, and those after the first of
+  -- them that have begun are counted
   abbrev pub found : ℕ → ℕ
-  found n = halve n 0 n
+  found n = let b = min (halve 16 n 0 n) (n - 16) in cond (ltb n 16) (halve 1 n 0 n) (b + count b 15)
 
 -- what a piece says of a point
 abbrev pub charge : {A : Type 0} → Piece A → ℕ → Option A

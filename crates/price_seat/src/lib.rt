@@ -10,24 +10,46 @@ use price::written_presence;
 use price::written_value;
 use rules::Answer;
 use rules::shorter;
-ghost use Prim.Native.Nat.{_<_, _≤_};
+ghost use Prim.Native.Nat.{_+_, _<_, _≤_};
 ghost use mathlib.Core.Path.{_≡_};
 ghost use lib.ListN.{length};
 ghost use Rattle.rules.specs.Lists.{seats, keys};
 ghost use Rattle.rules.specs.Answer.{leaves};
 ghost use Rattle.rules.specs.Merged as merged;
-ghost use Rattle.price.specs.Reading.{said, found, price-at};
+ghost use Rattle.price.specs.Reading.{said, begun, count, halve, found, price-at};
 ghost use Rattle.price.specs.Batch.{before, after, prices-at};
 
-// The place that halving finds among the first starts, so many of them: where they ascend, the last that is not beyond the point.
-fn find(start: &[Point], among: usize, point: u64) -> usize
-    requires { ⌜ (0 < among) × (among ≤ length (now start)) ⌝ }
-    ensures { λ r. ⌜ (r ≡ found (keys seats (now (start .entry))) point among) × (r < among) ⌝ }
+// 1 where the start at a place is not beyond the point, else 0.
+fn begun(start: &[Point], place: usize, point: u64) -> usize
+    requires { ⌜ place < length (now start) ⌝ }
+    ensures { λ r. ⌜ (r ≡ begun (keys seats (now (start .entry))) point place) × (r ≤ 1) ⌝ }
+{
+    (key_at(start, place) <= point) as usize
+}
+
+// How many of the places after one, so many of them, have begun.
+fn count(start: &[Point], base: usize, places: usize, point: u64) -> usize
+    requires { ⌜ base + places < length (now start) ⌝ }
+    ensures { λ r. ⌜ (r ≡ count (keys seats (now (start .entry))) point base places) × (r ≤ places) ⌝ }
+{
+    let mut counted: usize = 0;
+    let mut i: usize = 0;
+    while i < places {
+        i += 1;
+        counted += begun(start, base + i, point);
+    }
+    counted
+}
+
+// The place to which halving comes while more than so many are left.
+fn halve(start: &[Point], among: usize, most: usize, point: u64) -> usize
+    requires { ⌜ (0 < most) × (0 < among) × (among ≤ length (now start)) ⌝ }
+    ensures { λ r. ⌜ (r ≡ halve (keys seats (now (start .entry))) point most among 0 among) × (r < among) ⌝ }
 {
     let mut base: usize = 0;
     let mut size = among;
-    let mut half = size / 2;
-    while half > 0 {
+    while size > most {
+        let half = size / 2;
         let middle = base + half;
         base = if key_at(start, middle) <= point {
             middle
@@ -35,9 +57,20 @@ fn find(start: &[Point], among: usize, point: u64) -> usize
             base
         };
         size -= half;
-        half = size / 2;
     }
     base
+}
+
+// The place found among the first starts, so many of them: where they ascend, the last that is not beyond the point.
+fn find(start: &[Point], among: usize, point: u64) -> usize
+    requires { ⌜ (0 < among) × (among ≤ length (now start)) ⌝ }
+    ensures { λ r. ⌜ (r ≡ found (keys seats (now (start .entry))) point among) × (r < among) ⌝ }
+{
+    if among >= 16 {
+        let base = shorter(halve(start, among, 16, point), among - 16);
+        return base + count(start, base, 15, point);
+    }
+    halve(start, among, 1, point)
 }
 
 // The price at the point with a key.

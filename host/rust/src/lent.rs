@@ -291,8 +291,9 @@ pub fn multiway_symmetric_difference<P: Point>(
 /// The price at a point of pieces in columns, or none where nothing is on sale there: whatever a
 /// many-way join or a selection wrote, what its rule says of the lists at that point.
 ///
-/// It is found by halving. Where the starts do not ascend, halving goes on all the same, and the
-/// price is that of the piece where it ends, or none where that piece does not have the point.
+/// It is found by halving, and from 16 pieces on by counting at the end. Where the starts do not
+/// ascend, the search goes on all the same, and the price is that of the piece where it ends, or
+/// none where that piece does not have the point.
 ///
 /// ```
 /// use guineatwirl::{LentPieces, lent};

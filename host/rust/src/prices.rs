@@ -15,7 +15,7 @@ use crate::{LentPieces, Piece, Point, PriceColumns, lent};
 /// # Ok::<(), guineatwirl::Refusal>(())
 /// ```
 ///
-/// Any pieces can be held. A reading finds its piece by halving: of pieces that ascend, as those of
+/// Any pieces can be held. A reading searches the starts: of pieces that ascend, as those of
 /// an operation do, the one that has the point.
 #[derive(Clone, Debug, PartialEq, Eq)]
 pub struct Prices<P> {

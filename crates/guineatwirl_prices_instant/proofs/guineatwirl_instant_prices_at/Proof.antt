@@ -1,11 +1,11 @@
--- `guineatwirl_seat_prices_at` meets its contract. Assumes nothing.
+-- `guineatwirl_instant_prices_at` meets its contract. Assumes nothing.
 use borrow.Author.Needs.{needs}
 use Rattle.rules.proofs.Said.{said}
-use Rattle.guineatwirl_price_seat.proofs.guineatwirl_seat_prices_at.Statement.{statement}
-use Rattle.guineatwirl_price_seat.proofs.guineatwirl_seat_prices_at.Tie as tie
+use Rattle.guineatwirl_prices_instant.proofs.guineatwirl_instant_prices_at.Statement.{statement}
+use Rattle.guineatwirl_prices_instant.proofs.guineatwirl_instant_prices_at.Tie as tie
 
-pub guineatwirl-seat-prices-at-spec : {M : Type 1} → statement M
-guineatwirl-seat-prices-at-spec =
+pub guineatwirl-instant-prices-at-spec : {M : Type 1} → statement M
+guineatwirl-instant-prices-at-spec =
     tie.close
     (tie.spec
     (λ c κs. search needs)
