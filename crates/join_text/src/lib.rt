@@ -27,7 +27,8 @@ fn join_pairs(
     counts: &[u32],
     text: &mut [u8],
 ) -> usize
-    ensures { λ r. ⌜ leaves r (now (text .exit)) ≡ print (answer (paired-answer (head operation combiner) asked (given starts ends values counts))) (now (text .entry)) ⌝ }
+    ensures { λ r. ⌜ leaves r (now (text .exit))
+        ≡ print (answer (paired-answer (head operation combiner) asked (given starts ends values counts))) (now (text .entry)) ⌝ }
 {
     let mut out_start: [i64; 4095] = [0; 4095];
     let mut out_end: [i64; 4095] = [0; 4095];
@@ -75,7 +76,8 @@ fn join_many(
     counts: &[u32],
     text: &mut [u8],
 ) -> usize
-    ensures { λ r. ⌜ leaves r (now (text .exit)) ≡ print (answer (merged-answer (head operation combiner) asked (given starts ends values counts))) (now (text .entry)) ⌝ }
+    ensures { λ r. ⌜ leaves r (now (text .exit))
+        ≡ print (answer (merged-answer (head operation combiner) asked (given starts ends values counts))) (now (text .entry)) ⌝ }
 {
     let mut out_start: [i64; 4095] = [0; 4095];
     let mut out_end: [i64; 4095] = [0; 4095];
@@ -117,7 +119,8 @@ pub fn perform(
     counts: &[u32],
     text: &mut [u8],
 ) -> usize
-    ensures { λ r. ⌜ leaves r (now (text .exit)) ≡ print (answer (performed (head operation combiner) task (given starts ends values counts))) (now (text .entry)) ⌝ }
+    ensures { λ r. ⌜ leaves r (now (text .exit))
+        ≡ print (answer (performed (head operation combiner) task (given starts ends values counts))) (now (text .entry)) ⌝ }
 {
     match task {
         Task::Pair(asked) => {
