@@ -61,6 +61,13 @@ fn records() {
     assert_explained(&[&small[..], b"JL"].concat(), "12 58", why);
     let why = "the file has more than 45126 bytes, the most that lists take";
     assert_explained(&[0; MOST_FILE + 1], "9 45126", why);
+    // Wherever lists would begin if it were read on.
+    let mut long = small;
+    long.resize(MOST_FILE + 4, 0);
+    for ranges in 0..8 {
+        long[9] = ranges;
+        assert_explained(&long, "9 45126", why);
+    }
 }
 
 #[test]
@@ -77,4 +84,18 @@ fn ranges() {
     let why = "range 1 of list 1 (counted from 0) does not start beyond the end of the range \
                before it";
     assert_explained(&house(lists).file(), "6 2", why);
+}
+
+/// A faulty range is told whatever its number, by `show` too. The number is no offset.
+#[test]
+fn each_range_of_a_list() {
+    for at in 0..40 {
+        let mut list = (0..40).map(|n| (2 * n, 2 * n, 1)).collect::<Vec<_>>();
+        list[at].1 = -1;
+        let faulty = House { operation: 6, combiner: 0, lists: vec![list] }.file();
+        let why = format!("range {at} of list 0 (counted from 0) starts beyond its end");
+        assert_explained(&faulty, &format!("5 {at}"), &why);
+        house(&["show", "-"], &faulty)
+            .assert_refused(&format!("house: standard input: code 5: {why}\n"));
+    }
 }

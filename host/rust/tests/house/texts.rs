@@ -97,6 +97,14 @@ fn bytes_that_are_no_text() {
     let long = [b"join union\n".to_vec(), vec![b'#'; 1 << 20]].concat();
     let what = said(", line 2, column 1048566: a text has at most 1048576 bytes");
     house(&["join", "-"], &long).assert_refused(&what);
+    // A byte order mark counts among the bytes, and has no column.
+    for more in 0..8 {
+        let long = [&b"\xEF\xBB\xBFjoin union\n"[..], &vec![b'#'; (1 << 20) - 13 + more]].concat();
+        let what = said(", line 2, column 1048563: a text has at most 1048576 bytes");
+        house(&["pack", "-"], &long).assert_refused(&what);
+    }
+    let most = [&b"\xEF\xBB\xBFjoin union\n"[..], &vec![b'#'; (1 << 20) - 14]].concat();
+    house(&["pack", "-"], &most).done();
     let what = ": this is no text: it is empty, or begins as a tariff file does, or has a byte 00";
     for bytes in [&b""[..], b"JH", b"join\0"] {
         house(&["pack", "-"], bytes).assert_refused(&said(what));

@@ -100,7 +100,7 @@ impl Record {
         }
         let before = lists(file).take_while(|list| list.offset < offset).enumerate().last();
         let Some((list, ListRecord { offset: at, ranges })) = before else { return Self::List(0) };
-        let range = (offset - at - LIST_SIZE) / RANGE_SIZE;
+        let range = (offset - at).saturating_sub(LIST_SIZE) / RANGE_SIZE;
         if range < ranges { Self::Range { list, range } } else { Self::List(list + 1) }
     }
 }

@@ -27,25 +27,20 @@ impl Refused {
     /// What is wrong with the file, and where.
     pub fn sentence(self, file: &[u8]) -> String {
         let at = self.number;
-        let record = Record::at(at, file);
+        // Of the codes whose number is the offset of a record.
+        let record = || Record::at(at, file);
         match self.code {
             1 => Refusal::TooManyLists { lists: list_count(file) }.to_string(),
             2 => Refusal::NotTwoLists { lists: list_count(file) }.to_string(),
-            3 => format!("with {record}: {}", Refusal::TooManyRanges { ranges: total(file, at) }),
+            3 => {
+                format!("with {}: {}", record(), Refusal::TooManyRanges { ranges: total(file, at) })
+            }
             5 => Refusal::BackwardRange(place(file, at)).to_string(),
             6 => Refusal::OverlappingRange(place(file, at)).to_string(),
             7 => combiner_sentence(file),
             9 => format!("the file has more than {MOST_FILE} bytes, the most that lists take"),
-            10 => {
-                let [first, second] = record.mark();
-                format!("{record} should begin at offset {at}, with {first:02X} {second:02X}")
-            }
-            11 if at == file.len() => format!("the file ends at {at}, where {record} should begin"),
-            11 => format!(
-                "the file ends at {}, within {record}, whose {} bytes begin at offset {at}",
-                file.len(),
-                record.size()
-            ),
+            10 => wrong_mark(record(), at),
+            11 => cut_short(record(), at, file.len()),
             12 => format!("the records end at {at}, and the file goes on to {}", file.len()),
             13 => format!(
                 "there is no operation {}: they have the numbers 1 to {}",
@@ -55,6 +50,19 @@ impl Refused {
             code => format!("there is no sentence for code {code} with number {at}"),
         }
     }
+}
+
+fn wrong_mark(record: Record, at: usize) -> String {
+    let [first, second] = record.mark();
+    format!("{record} should begin at offset {at}, with {first:02X} {second:02X}")
+}
+
+fn cut_short(record: Record, at: usize, end: usize) -> String {
+    if at == end {
+        return format!("the file ends at {end}, where {record} should begin");
+    }
+    let size = record.size();
+    format!("the file ends at {end}, within {record}, whose {size} bytes begin at offset {at}")
 }
 
 fn byte(file: &[u8], at: usize) -> u8 {

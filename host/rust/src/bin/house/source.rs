@@ -97,15 +97,14 @@ impl Source {
     }
 }
 
-/// The text that bytes are. A byte order mark at its front is passed over.
+/// The text that bytes are. A byte order mark at its front is passed over, and counts as bytes.
 fn read_text(bytes: &[u8]) -> Result<&str, Fault> {
-    let bytes = bytes.strip_prefix("\u{feff}".as_bytes()).unwrap_or(bytes);
-    let (before, what) = match str::from_utf8(bytes) {
-        _ if bytes.len() > MOST_TEXT => {
-            (MOST_TEXT, format!("a text has at most {MOST_TEXT} bytes"))
-        }
+    let text = bytes.strip_prefix("\u{feff}".as_bytes()).unwrap_or(bytes);
+    let most = MOST_TEXT - (bytes.len() - text.len());
+    let (before, what) = match str::from_utf8(text) {
+        _ if text.len() > most => (most, format!("a text has at most {MOST_TEXT} bytes")),
         Ok(text) => return Ok(text),
         Err(error) => (error.valid_up_to(), "this is not UTF-8".to_owned()),
     };
-    fault(Position::after(&String::from_utf8_lossy(&bytes[..before])), what)
+    fault(Position::after(&String::from_utf8_lossy(&text[..before])), what)
 }
