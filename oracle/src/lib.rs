@@ -18,6 +18,7 @@ pub mod coverage;
 pub mod faults;
 pub mod file;
 pub mod generator;
+pub mod held;
 pub mod one_list;
 pub mod price_bench;
 pub mod random;
@@ -26,6 +27,7 @@ pub mod reading;
 pub mod readings;
 pub mod small_lists;
 pub mod text;
+pub mod timing;
 
 // The names that the unchanged files take from their crate's root.
 pub mod map {

@@ -2,10 +2,11 @@
 //! against `partition_point` over the columns; over columns of any kind, against the search
 //! written out.
 
-use guineatwirl::{LentPieces, PriceColumns, Refusal, lent};
+use guineatwirl::{PriceColumns, Refusal, lent};
 
 use crate::call::{Columns, Lent, Operation, Point};
 use crate::generator::{USUAL, even_columns, lists, lists_of_ranges, most_pieces};
+use crate::held::Held;
 use crate::random::Random;
 use crate::rattle_side::{self, Proved};
 use crate::reading;
@@ -14,13 +15,6 @@ use crate::reading;
 const JOINS: u64 = 4000;
 const CROWDED: u64 = 20;
 const OTHERS: u64 = 20_000;
-
-/// Pieces in columns.
-struct Held<T> {
-    starts: Vec<T>,
-    ends: Vec<T>,
-    values: Vec<i64>,
-}
 
 /// All readings of one width, up to the first difference.
 pub fn run<T: Proved>(seed: u64) -> Result<(), String> {
@@ -114,8 +108,7 @@ impl<T: Proved> Held<T> {
         points: &[T],
         due: impl Fn(T) -> Option<i64>,
     ) -> Result<u64, String> {
-        let Self { starts, ends, values } = self;
-        let pieces = LentPieces { starts, ends, values };
+        let pieces = self.lend();
         let due: Vec<Option<i64>> = points.iter().map(|&point| due(point)).collect();
         let one_by_one: Vec<_> = points.iter().map(|&p| lent::price_at(pieces, p)).collect();
         let (more, filled) = (random.below(3) as usize, random.word());
@@ -127,7 +120,7 @@ impl<T: Proved> Held<T> {
         for (place, &point) in points.iter().enumerate() {
             if one_by_one[place] != due[place] || many[place] != due[place] {
                 return Err(format!(
-                    "{starts:?}\n{ends:?}\n{values:?}\nat {point}: {:?} is due, one by one {:?}, many {:?}\n",
+                    "{pieces:?}\nat {point}: {:?} is due, one by one {:?}, many {:?}\n",
                     due[place], one_by_one[place], many[place]
                 ));
             }
@@ -143,8 +136,7 @@ impl<T: Proved> Held<T> {
 
     /// Too little room by a place, in either column: nothing is written.
     fn refused(&self, points: &[T]) -> Result<(), String> {
-        let Self { starts, ends, values } = self;
-        let pieces = LentPieces { starts, ends, values };
+        let pieces = self.lend();
         let needed = points.len();
         for (of_values, of_presences) in [(needed - 1, needed), (needed, needed - 1)] {
             let (mut prices, mut presences) = (vec![7; of_values], vec![7; of_presences]);
@@ -156,11 +148,6 @@ impl<T: Proved> Held<T> {
             }
         }
         Ok(())
-    }
-
-    fn partition_point(&self, point: T) -> Option<i64> {
-        let place = self.starts.partition_point(|&start| start <= point).checked_sub(1)?;
-        (point <= self.ends[place]).then(|| self.values[place])
     }
 
     /// The price by the definition: what the piece at the place found says of the point.

@@ -4,19 +4,15 @@
 //! counts them first. The library is called over the lent columns of its Rust package, and one
 //! operation also without the package. The crate's iterators are drained into the same columns.
 //! Tariff files go from bytes to text, beside the oracle's reader and printer around the crate.
-//! What is printed is what docs/PERFORMANCE.md has: a summary, and the two tables.
-
-use std::hint::black_box;
-use std::time::{Duration, Instant};
+//! Prices are read at points, beside `partition_point` and a `BTreeMap`. What is printed is what
+//! docs/PERFORMANCE.md has: a summary, and the three tables.
 
 use oracle::call::{Columns, Lent, MOST_RANGES, Operation, Tariff};
 use oracle::file::reading::{self, Request};
 use oracle::file::{library, text, writing};
 use oracle::random::Random;
-use oracle::{bare, blaze_side, rattle_side};
-
-/// How long each side of a row is run.
-const SPAN: Duration = Duration::from_millis(150);
+use oracle::timing::{best, span};
+use oracle::{bare, blaze_side, price_bench, rattle_side};
 
 /// How ranges are strewn: the widest gap between them, and the longest range.
 const STREWN: [(&str, u64, u64); 2] = [("dense", 3, 6), ("spread", 1000, 10)];
@@ -55,9 +51,11 @@ fn main() {
     let selections = [Operation::Union, Operation::SymmetricDifference];
     let selections = rows(&selections, &[2, 4, 16], MOST_RANGES);
     let files = file_rows();
+    let readings = price_bench::rows();
     print!("{}", summary(&two_way, &listing, &joins, &selections));
     print!("{}", packaging());
-    println!("{}", file_summary(&files));
+    print!("{}", file_summary(&files));
+    println!("{}", price_bench::summary(&readings));
     println!(
         "| operation | lists | ranges | strewn | crate | library | counted | library / crate | counted / crate |"
     );
@@ -73,7 +71,7 @@ fn main() {
     for row in &files {
         println!("{}", file_line(row));
     }
-    print!("\n{}", oracle::price_bench::table());
+    print!("\n{}", price_bench::table(&readings));
 }
 
 fn rows(operations: &[Operation], list_counts: &[u64], ranges: usize) -> Vec<Row> {
@@ -247,13 +245,6 @@ fn growth(rows: &[Row], from: (u64, usize), to: (u64, usize)) -> String {
     span(of(from).filter_map(factor))
 }
 
-/// The least and the greatest of some numbers.
-fn span(numbers: impl Iterator<Item = f64>) -> String {
-    let wider = |(least, greatest): (f64, f64), x: f64| (least.min(x), greatest.max(x));
-    let (least, greatest) = numbers.fold((f64::INFINITY, 0.0), wider);
-    format!("{least:.2} to {greatest:.2}")
-}
-
 /// So many instants' lists that have so many ranges together.
 fn lists(count: u64, ranges: usize, gap: u64, length: u64) -> Lent<i64> {
     let random = &mut Random::of_case(7, "bench", count * 10_000 + gap);
@@ -288,16 +279,4 @@ fn columns(operation: Operation, room: usize) -> Columns<i64> {
         },
         _ => Columns::Priced { starts: vec![0; room], ends: vec![0; room], values: vec![0; room] },
     }
-}
-
-/// The best time of a run, in nanoseconds for each range.
-fn best<R>(ranges: usize, mut run: impl FnMut() -> R) -> f64 {
-    let mut least = Duration::MAX;
-    let began = Instant::now();
-    while began.elapsed() < SPAN {
-        let start = Instant::now();
-        black_box(run());
-        least = least.min(start.elapsed());
-    }
-    least.as_nanos() as f64 / ranges as f64
 }

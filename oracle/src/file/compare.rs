@@ -25,11 +25,12 @@ type Part = (&'static str, fn(Plan) -> Box<dyn Iterator<Item = Case>>);
 
 /// The parts. Half as many files as there are random cases are well formed, a quarter try every
 /// room, and a quarter are damaged.
-const PARTS: [Part; 16] = [
+const PARTS: [Part; 17] = [
     ("example and boundary sheet", |_| Box::new(sound::sheet().into_iter())),
     ("list of answers.bin", |_| Box::new(answers::files().into_iter().map(Case::of))),
     ("two bytes or fewer", |_| Box::new(heads::every_start())),
     ("heads", |_| Box::new(heads::every_head())),
+    ("every number of lists", |_| Box::new(heads::every_number_of_lists())),
     ("every set of faults", |_| Box::new(faults::every_set())),
     ("cut short", |plan| Box::new(damage::truncations(plan.seed))),
     ("one byte changed", |plan| Box::new(damage::changed_bytes(plan.seed))),

@@ -6,7 +6,11 @@ use crate::file::writing::{head, list};
 /// Combiners tried with every operation.
 const COMBINERS: [u8; 6] = [0, 1, 5, 6, 128, 255];
 
-/// Numbers of lists beside those up to 20.
+/// Operations tried with every number of lists.
+const TWO_WAY_FULL: u8 = 3;
+const FULL: u8 = 5;
+
+/// Numbers of lists beside those up to 20, tried with every operation and combiner.
 const MANY_LISTS: [u16; 8] = [31, 127, 255, 256, 258, 4096, 32_768, 65_535];
 
 /// A head and its lists, which claim so many ranges each and have none; those beyond 20 do not
@@ -17,7 +21,7 @@ pub fn with_lists(operation: u8, combiner: u8, lists: u16, ranges: u16) -> Vec<u
 }
 
 /// Every operation under some combiners and every combiner under the operations up to 8, known or
-/// not, with any number of lists, which are empty or claim too many ranges.
+/// not, with some numbers of lists, which are empty or claim too many ranges.
 pub fn every_head() -> impl Iterator<Item = Case> {
     let combiners = |operation: u8| {
         let tried = move |combiner: &u8| operation <= 8 || COMBINERS.contains(combiner);
@@ -27,6 +31,22 @@ pub fn every_head() -> impl Iterator<Item = Case> {
         (0..=20).chain(MANY_LISTS).flat_map(move |lists| {
             [0, 2049].map(|ranges| Case::of(with_lists(operation, combiner, lists, ranges)))
         })
+    })
+}
+
+/// Every number of lists, under a two-way operation and under one that takes any number up to 16.
+pub fn every_number_of_lists() -> impl Iterator<Item = Case> {
+    let case = |operation, combiner, lists| {
+        let file = with_lists(operation, combiner, lists, 0);
+        match lists {
+            17.. => Case::refused(file, 1, 0),
+            _ if operation == TWO_WAY_FULL && lists != 2 => Case::refused(file, 2, 0),
+            _ => Case::of(file),
+        }
+    };
+    let operations = [(TWO_WAY_FULL, 0), (FULL, 1)].into_iter();
+    operations.flat_map(move |(operation, combiner)| {
+        (0..=u16::MAX).map(move |lists| case(operation, combiner, lists))
     })
 }
 
