@@ -1,4 +1,5 @@
-//! Output columns, as the host lends them. An operation writes its pieces to their front.
+//! Columns of pieces, events and prices, as the host lends them: to be written from the front on,
+//! or to be read.
 
 use crate::{Event, Pair, Piece, Point};
 

@@ -1,3 +1,5 @@
+//! The combiners of many-way joins.
+
 /// What a many-way join makes of the values that the lists have at a point.
 ///
 /// ```

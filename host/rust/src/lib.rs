@@ -33,7 +33,8 @@
 //!
 //! A list is well formed where no range starts beyond its end, and each starts beyond the end of
 //! the one before it; [`check`] tells of one list as it is typed. Ranges may touch. Lists and the
-//! ranges in them are counted from 0. No call panics: whatever is wrong with what is lent comes back as a [`Refusal`].
+//! ranges in them are counted from 0. No call panics: whatever is wrong with what is lent comes
+//! back as a [`Refusal`].
 //!
 //! To link the library, `GUINEATWIRL_LIBRARY` names the folder of its archive, `libguineatwirl.a`,
 //! when the package is built. `tools/host_library` builds it, in `target/host`.

@@ -1,3 +1,5 @@
+//! Lists of tariffs, and sets of them as they are laid in columns and lent.
+
 use core::ops::RangeInclusive;
 
 use crate::{MOST_PIECES, Place, Point};

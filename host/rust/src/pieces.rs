@@ -1,3 +1,5 @@
+//! What operations write, as values: pieces, pairs and events.
+
 /// A piece of a many-way join or of a selection: a range, and the value at each of its points.
 ///
 /// ```

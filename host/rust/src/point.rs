@@ -1,3 +1,5 @@
+//! What a point can be: the two widths of the library.
+
 use core::fmt::{Debug, Display};
 
 use crate::ffi::{Functions, Readings};

@@ -1,4 +1,6 @@
-use crate::{LentPieces, Piece, Point, PriceColumns, lent};
+//! Pieces held to be read at points.
+
+use crate::{LentPieces, Piece, Point, PriceColumns, Refusal, lent};
 
 /// The pieces of a many-way join or of a selection, held in columns to be read at many points.
 ///
@@ -33,20 +35,24 @@ impl<P: Point> Prices<P> {
 
     /// The price at each of some points.
     ///
+    /// # Errors
+    ///
+    /// [`Refusal::Unforeseen`], where the library is of another version, and no other.
+    ///
     /// ```
     /// use guineatwirl::{Piece, Prices};
     ///
     /// let prices = Prices::from_iter([Piece { start: 1_i64, end: 5, value: -100 }]);
-    /// assert_eq!(prices.prices_at(&[5, 6]), [Some(-100), None]);
+    /// assert_eq!(prices.prices_at(&[5, 6])?, [Some(-100), None]);
+    /// # Ok::<(), guineatwirl::Refusal>(())
     /// ```
-    #[must_use]
-    pub fn prices_at(&self, points: &[P]) -> Vec<Option<i64>> {
+    pub fn prices_at(&self, points: &[P]) -> Result<Vec<Option<i64>>, Refusal> {
         let mut columns = PriceColumns {
             values: &mut vec![0; points.len()],
             presences: &mut vec![0; points.len()],
         };
-        let written = lent::prices_at(self.lend(), points, &mut columns);
-        columns.prices(written.unwrap_or(0)).collect()
+        let written = lent::prices_at(self.lend(), points, &mut columns)?;
+        Ok(columns.prices(written).collect())
     }
 
     /// The columns, to lend to the functions of [`lent`].

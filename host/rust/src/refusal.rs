@@ -1,3 +1,5 @@
+//! Why a call is refused, and where the range stands that is at fault.
+
 use core::fmt::{self, Display};
 
 use crate::ffi::Answer;
@@ -87,9 +89,9 @@ pub enum Refusal {
         /// The number that was given.
         combiner: u8,
     },
-    /// The output columns have no room for all pieces. Code 8.
+    /// The output columns have no room for all pieces, events or prices. Code 8.
     NoRoom {
-        /// How many pieces, or events, there are.
+        /// How many pieces, events or prices there are: each takes a row of the columns.
         needed: usize,
         /// For how many there is room.
         room: usize,
@@ -125,7 +127,7 @@ impl Refusal {
     }
 
     /// The number that the C function answered with the code: the range's index for a faulty
-    /// range, the pieces needed where there is no room for them, 0 for the other refusals.
+    /// range, the rows needed where there is no room for them, 0 for the other refusals.
     ///
     /// ```
     /// assert_eq!(guineatwirl::Refusal::NoRoom { needed: 5, room: 3 }.number(), 5);
@@ -228,7 +230,7 @@ impl Display for Refusal {
                 write!(out, "there is no combiner {combiner}: they have the numbers 1 to {last}")
             }
             Self::NoRoom { needed, room } => {
-                write!(out, "{needed} pieces are needed and the columns have room for {room}")
+                write!(out, "{needed} rows are needed and the columns have room for {room}")
             }
             Self::Unforeseen { code, number } => write!(
                 out,

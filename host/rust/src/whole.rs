@@ -6,9 +6,9 @@ use crate::{
     Refusal, Tariff, lent,
 };
 
-/// Checks one list as it is typed, before any join: whether no range starts beyond its end, and each
-/// starts beyond the end of the one before it. Nothing is copied. The list may have any length; one
-/// of more than [`MOST_RANGES`](crate::MOST_RANGES) ranges cannot be joined.
+/// Checks one list as it is typed, before any join: whether no range starts beyond its end, and
+/// each starts beyond the end of the one before it. Nothing is copied. The list may have any
+/// length; one of more than [`MOST_RANGES`](crate::MOST_RANGES) ranges cannot be joined.
 ///
 /// # Errors
 ///

@@ -1,24 +1,9 @@
 //! The text of a tariff file: what is written to a buffer, and how much at most.
 
-use guineatwirl::{MOST_FILE, MOST_RANGES, MOST_TEXT, join_file, lent};
+mod common;
 
-/// A file of an operation and its combiner, with these lists of start, end and value.
-fn file(operation: u8, combiner: u8, lists: &[Vec<(i64, i64, i32)>]) -> Vec<u8> {
-    let count = |number: usize| u16::try_from(number).unwrap().to_be_bytes();
-    let mut file = vec![0x4A, 0x48, operation, combiner];
-    file.extend(count(lists.len()));
-    for list in lists {
-        file.extend([0x4A, 0x4C]);
-        file.extend(count(list.len()));
-        for (start, end, value) in list {
-            file.extend([0x4A, 0x52]);
-            file.extend(start.to_be_bytes());
-            file.extend(end.to_be_bytes());
-            file.extend(value.to_be_bytes());
-        }
-    }
-    file
-}
+use common::file;
+use guineatwirl::{MOST_FILE, MOST_RANGES, MOST_TEXT, join_file, lent};
 
 /// The same texts by `join_file` and into buffers of every length up to a byte more than is needed.
 fn assert_printed(file: &[u8], text: &str) {

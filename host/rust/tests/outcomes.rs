@@ -89,7 +89,7 @@ fn prices_at_the_ends_of_a_width() {
     let prices = Prices::from_iter(multiway_full_join(Combiner::Sum, &[list; 16]).unwrap());
     let points = [i64::LEAST, -1, 0, 1, i64::GREATEST];
     let (low, high) = (Some(16 * i64::from(i32::MIN)), Some(16 * i64::from(i32::MAX)));
-    assert_eq!(prices.prices_at(&points), [low, low, None, high, high]);
+    assert_eq!(prices.prices_at(&points), Ok(vec![low, low, None, high, high]));
     assert_eq!(points.map(|point| prices.price_at(point)), [low, low, None, high, high]);
 }
 

@@ -130,7 +130,7 @@ fn unknown_combiner() {
 #[test]
 fn no_room() {
     let expected = Refusal::NoRoom { needed: 2, room: 1 };
-    let sentence = "2 pieces are needed and the columns have room for 1";
+    let sentence = "2 rows are needed and the columns have room for 1";
     assert_told(refused(1, SOUND, 1), expected, (8, 2), sentence);
 }
 

@@ -1,8 +1,7 @@
-//! Tariff files, written here anew from what docs/FILE.md says of them.
+//! Houses: what a tariff file and its text say, with random ones.
 
+use crate::common::{Range, file};
 use crate::random::Random;
-
-pub type Range = (i64, i64, i32);
 
 pub const OPERATIONS: [(u8, &str); 7] = [
     (1, "two-way-inner"),
@@ -25,20 +24,7 @@ pub struct House {
 
 impl House {
     pub fn file(&self) -> Vec<u8> {
-        let count = |number: usize| u16::try_from(number).unwrap().to_be_bytes();
-        let mut file = vec![0x4A, 0x48, self.operation, self.combiner];
-        file.extend(count(self.lists.len()));
-        for list in &self.lists {
-            file.extend([0x4A, 0x4C]);
-            file.extend(count(list.len()));
-            for (start, end, value) in list {
-                file.extend([0x4A, 0x52]);
-                file.extend(start.to_be_bytes());
-                file.extend(end.to_be_bytes());
-                file.extend(value.to_be_bytes());
-            }
-        }
-        file
+        file(self.operation, self.combiner, &self.lists)
     }
 
     /// The text that `unpack` gives.

@@ -2,7 +2,8 @@
 
 use std::collections::HashMap;
 
-use crate::files::{House, Range, random, small};
+use crate::common::Range;
+use crate::files::{House, random, small};
 use crate::program::house;
 use crate::random::Random;
 use crate::scanned::{Element, scan};
