@@ -7,9 +7,9 @@
    column, counts, says how many ranges each list has; its length is the number of lists. No lists, and lists without ranges, are
    allowed.
 
-   Each function answers a code, and writes the code's number to *number: after GUINEATWIRL_DONE the pieces (or events) that it wrote at
-   the front of the output columns, whose later places keep their contents. A refusal leaves all output columns untouched. The rules
-   stand in docs/RULES.md of the library's repository.
+   Each function answers a code, and writes the code's number to *number: after GUINEATWIRL_DONE the pieces, events or prices that it
+   wrote at the front of the output columns, whose later places keep their contents. A refusal leaves all output columns untouched. The
+   rules stand in docs/RULES.md of the library's repository.
 
    n ranges have 2n events, and give at most 2n - 1 pieces; only the inner join of no lists gives a piece without a range. Room is the
    length of the shortest output column. Room for the pieces that there are is enough; room for 2n - 1 saves the pass that counts them.
@@ -17,8 +17,9 @@
    What a many-way join or a selection wrote is read by price_at, the price at a point, and prices_at, the prices at many: at each point
    the price is what the operation's rule says of the lists there.
 
-   A column of length 0 may be NULL. No output column may overlap another column, and number and price must not be NULL. The functions hold no
-   state and allocate nothing: any number of calls may run at once, each on output columns and a number of its own.
+   A column of length 0 may be NULL. No output column may overlap another column. number and price must not be NULL, nor lie within a
+   column of the call. The functions hold no state and allocate nothing: any number of calls may run at once, each on output columns and
+   a number or price of its own.
 
    Licensed under either of the MIT license or the Apache License, Version 2.0, at your option. */
 #ifndef GUINEATWIRL_H
@@ -57,15 +58,15 @@ extern "C" {
 /* What a call answers. Where several are due, the first of 1, 2, 4, 3, 7, then the first range that is wrong (5 before 6), then 8. The
    number is 0 unless another is named. The place of a range is counted from 0 through all lists. */
 enum guineatwirl_code {
-    GUINEATWIRL_DONE = 0,             /* number: the pieces or events written; 0 of a check */
+    GUINEATWIRL_DONE = 0,             /* number: the pieces, events or prices written; 0 of a check */
     GUINEATWIRL_TOO_MANY_LISTS = 1,
     GUINEATWIRL_NOT_TWO_LISTS = 2,    /* of two-way joins only */
     GUINEATWIRL_TOO_MANY_RANGES = 3,
     GUINEATWIRL_COLUMNS_DIFFER = 4,   /* in length: starts, ends, values, and what counts add up to */
     GUINEATWIRL_BACKWARD = 5,         /* number: the place of a range that starts beyond its end */
     GUINEATWIRL_OVERLAP = 6,          /* number: the place of a range that starts no later than the end before it in its list */
-    GUINEATWIRL_UNKNOWN_COMBINER = 7, /* of many-way joins only */
-    GUINEATWIRL_NO_ROOM = 8           /* number: the pieces or events that need room */
+    GUINEATWIRL_UNKNOWN_COMBINER = 7, /* of many-way joins, and of any file whose operation does not take it */
+    GUINEATWIRL_NO_ROOM = 8           /* number: the pieces, events or prices that need room */
 };
 
 /* What the text of a tariff file can say beside 1, 2, 3, 5, 6 and 7. The number is the offset of the record, or of the first byte left
@@ -109,11 +110,11 @@ static inline const char *guineatwirl_words(uint8_t code) {
     case GUINEATWIRL_COLUMNS_DIFFER: return "the columns differ in length, or the counts do not add up to it";
     case GUINEATWIRL_BACKWARD: return "a range starts beyond its end";
     case GUINEATWIRL_OVERLAP: return "a range starts no later than the end before it";
-    case GUINEATWIRL_UNKNOWN_COMBINER: return "no combiner has this number";
+    case GUINEATWIRL_UNKNOWN_COMBINER: return "the operation does not take this combiner";
     case GUINEATWIRL_NO_ROOM: return "the output columns are too short";
     case GUINEATWIRL_FILE_TOO_LONG: return "the file has more than 45126 bytes";
     case GUINEATWIRL_WRONG_MARK: return "a record of the file does not begin with its mark";
-    case GUINEATWIRL_CUT_SHORT: return "the file ends within a record";
+    case GUINEATWIRL_CUT_SHORT: return "the file ends within a record, or before one that is due";
     case GUINEATWIRL_LEFT_OVER: return "bytes are left over after the last record of the file";
     case GUINEATWIRL_UNKNOWN_OPERATION: return "no operation has this number";
     default: return "no code of this library";
