@@ -32,18 +32,13 @@ play-spec =
     (λ c. search needs)
     (λ c κs. search needs)
     (λ c. search needs)
-    (λ c κs. search needs)
-    (λ c. search needs)
-    (λ c κs. search needs)
-    (λ c. search needs)
     (λ c. search needs)
     (λ c. search needs)
     (λ c.
-    let t = c .before .before .before .before .before .before .before .before .turn in
-    (c .top .ensures _ (t .ensures .1), t .ensures .0, omega arith))
+    let t : tie.After-turn Inv-loop μ-loop = search in
+    (c .top .ensures _ (t .turn .ensures .1), t .turn .ensures .0, omega arith))
     (λ c κs. search needs)
     (λ c. search needs)
-    (λ c κs. search needs)
     (λ c κs. search needs)
     (λ c κs. search needs)
     (λ c κs. search needs)
