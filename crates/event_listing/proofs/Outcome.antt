@@ -22,7 +22,7 @@ use Rattle.rules.specs.declared.Kind.the-variants.{Listing}
 use Rattle.form.specs.Shape.{Judged}
 use Rattle.multiway_sweep.specs.Begins.{events-of}
 use Rattle.multiway_sweep.proofs.Begun.{events-count}
-use Rattle.event_listing.specs.Listing.{settled, Listable, Wrote}
+use Rattle.event_listing.specs.Listing.{answer-for, Listable, Wrote}
 
 module _ {P : Type 0} (w : Width P) (l : Lent P) {f : Judgement} (judged : Judged w Listing l f) where
   pub refused : {a : Answer} {c : Listed P} → f ≡ Refused a → leaves a c ≡ listing w l c
@@ -41,7 +41,7 @@ module _ {P : Type 0} (w : Width P) (l : Lent P) {f : Judgement} (judged : Judge
     count = events-count (judged .passes q)
 
     -- the room is looked at: the events are written where it is enough
-    module _ (c : Listed P) {m : ℕ} (r : m ≡ room c) {a : Answer} (e : a ≡ settled needed m) where
+    module _ (c : Listed P) {m : ℕ} (r : m ≡ room c) {a : Answer} (e : a ≡ answer-for needed m) where
       enough : {k : ℕ} → a ≡ Done k → (needed ≤ m) × (a ≡ Done needed)
       enough {k} d = go (leb needed m) refl
         where

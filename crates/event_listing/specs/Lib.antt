@@ -1,1 +1,2 @@
+-- What the contracts of the event listing say.
 pub mod Listing

@@ -16,8 +16,8 @@ use Rattle.multiway_sweep.specs.Begins.{events-of}
 use Rattle.event_listing.specs.declared.Row.{Row}
 
 -- the answer of an operation that nothing refuses before the room is looked at
-abbrev pub settled : ℕ → ℕ → Answer
-settled needed room = cond (leb needed room) (Done needed) (NoRoom needed)
+abbrev pub answer-for : ℕ → ℕ → Answer
+answer-for needed room = cond (leb needed room) (Done needed) (NoRoom needed)
 
 -- the row of an event
 pub record RowOf (e : Event ℤ) (r : Row) : Type 0 where

@@ -6,7 +6,7 @@ use rules::shorter;
 ghost use Prim.Native.Nat.{_*_, _^_, _<_, min};
 ghost use mathlib.Core.Path.{_≡_};
 ghost use Rattle.rules.specs.Sweep.{starts, ends};
-ghost use Rattle.event_listing.specs.Listing.{RowOf, settled};
+ghost use Rattle.event_listing.specs.Listing.{RowOf, answer-for};
 
 // An event as the columns have it, its point told by its key.
 pub struct Row {
@@ -50,9 +50,9 @@ pub fn shortest(a: usize, b: usize, c: usize, d: usize) -> usize
 }
 
 // The answer where nothing is refused before: two events for each range, if there is room for them.
-pub fn settled(ranges: usize, room: usize) -> Answer
+pub fn answer_for(ranges: usize, room: usize) -> Answer
     requires { ⌜ ranges < 2 ^ 63 ⌝ }
-    ensures { λ r. ⌜ r ≡ settled (2 * ranges) room ⌝ }
+    ensures { λ r. ⌜ r ≡ answer-for (2 * ranges) room ⌝ }
 {
     let needed = 2 * ranges;
     if needed <= room {

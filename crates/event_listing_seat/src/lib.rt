@@ -1,8 +1,8 @@
 // The event listing over lent columns.
 
 use event_listing::Row;
+use event_listing::answer_for;
 use event_listing::end_row;
-use event_listing::settled;
 use event_listing::shortest;
 use event_listing::start_row;
 use form_seat::judge;
@@ -123,7 +123,7 @@ pub fn list_events(
         out_list.len(),
         out_value.len(),
     );
-    let answer = settled(starts.len(), room);
+    let answer = answer_for(starts.len(), room);
     if let Answer::Done(_) = answer {
         write_events(
             starts,

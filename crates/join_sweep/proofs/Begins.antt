@@ -9,7 +9,7 @@ use Rattle.rules.specs.Piece.{Range, AllWellFormed}
 use Rattle.rules.specs.Lists.{Width}
 use Rattle.rules.specs.Sweep.{events}
 use Rattle.slots.specs.Slots.{Slots, active}
-use Rattle.slots.specs.Stretch.{Stretch as StretchOf, NoStretch}
+use Rattle.slots.specs.Stretch.{Stretch, NoStretch}
 use Rattle.slots.proofs.Slots.{active-none, nones-count}
 use Rattle.multiway_sweep.specs.Steps.{Reading, Arrays}
 use Rattle.multiway_sweep.specs.declared.Range.{Range as Span}
@@ -17,8 +17,8 @@ use Rattle.multiway_sweep.specs.declared.Step.{Step}
 use Rattle.multiway_sweep.proofs.Front.{front-first}
 use Rattle.join_sweep.specs.Stretches.{Blank, Ready, Joining, Finds}
 use Rattle.join_sweep.specs.declared.JoinSweep.{JoinSweep}
-use Rattle.join_sweep.specs.declared.Stretch.{Stretch}
-use Rattle.join_sweep.specs.declared.Stretch.the-variants.{Next as Spans, Done as NoMore}
+use Rattle.join_sweep.specs.declared.NextStretch.{NextStretch}
+use Rattle.join_sweep.specs.declared.NextStretch.the-variants.{Next as Spans, Done as NoMore}
 
 pub zeros : Blank (let z = replicate 16 0 in record { cursors = replicate 32 0; start-keys = z; start-lists = z; end-keys = z; end-lists = z })
 zeros = record { cursors-long = refl; starts-whole = record { keys = refl; lists = refl }; ends-whole = record { keys = refl; lists = refl } }
@@ -41,8 +41,8 @@ joining-first {w = w} {ls = ls} wf few r =
     }
 
 -- a stretch and the sweep at its end, or none is left
-module _ {P : Type 0} (w : Width P) (c : Reading P) (ls : List (List Range)) (a : Arrays) (s : Slots) (k : ℕ) {r : Stretch} where
-  pub finds-next : {x : Span} {j : JoinSweep} → r ≡ Spans x j → Finds w c ls a s k r → StretchOf (w .points) ls k (active (length ls) s) (x .start) (x .end) × Joining w c ls a s j (2 * x .end + 1)
+module _ {P : Type 0} (w : Width P) (c : Reading P) (ls : List (List Range)) (a : Arrays) (s : Slots) (k : ℕ) {r : NextStretch} where
+  pub finds-next : {x : Span} {j : JoinSweep} → r ≡ Spans x j → Finds w c ls a s k r → Stretch (w .points) ls k (active (length ls) s) (x .start) (x .end) × Joining w c ls a s j (2 * x .end + 1)
   finds-next h f = rw h at f
 
   pub finds-none : r ≡ NoMore → Finds w c ls a s k r → NoStretch (w .points) ls k

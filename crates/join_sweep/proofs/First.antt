@@ -7,7 +7,7 @@ use mathlib.Core.List.{List, [], _∷_}
 use native.Mathlib.Omega.{arith}
 use lib.IntN.{ℤ}
 use lib.ListN.{length, getD, List·getD-map}
-use Rattle.rules.specs.Piece.{Range, column, present, AllWellFormed}
+use Rattle.rules.specs.Piece.{Range, column, present}
 use Rattle.rules.specs.Lists.{Width}
 use Rattle.rules.specs.Sweep as rules
 use Rattle.rules.specs.Proving.Below.{nones}
@@ -19,7 +19,7 @@ use Rattle.multiway_sweep.specs.declared.Step.{Step}
 use Rattle.multiway_sweep.specs.declared.Step.the-variants.{Start, End, Done}
 use Rattle.multiway_sweep.proofs.Front.{front-column, front-last, front-ends, front-point}
 use Rattle.slots.specs.Slots.{Slots, active}
-use Rattle.slots.specs.Stretch.{Stretch as StretchOf}
+use Rattle.slots.specs.Stretch.{Stretch}
 use Rattle.join_sweep.specs.Stretches.{after, Busy, StartsAt, Begun, BegunAfter, Ahead, Reached, Joining, Opened}
 use Rattle.join_sweep.specs.declared.Begin.{Begin}
 use Rattle.join_sweep.specs.declared.Begin.the-variants.{At as BeginAt, Nowhere}
@@ -77,11 +77,11 @@ module _ {P : Type 0} {w : Width P} {c : Reading P} {ls : List (List Range)} {a 
 module _ {P : Type 0} {w : Width P} {c : Reading P} {ls : List (List Range)} {a : Arrays} {s : Slots} {j : JoinSweep} (last : LastEnd) (greatest : ℕ) (g : Joining w c ls a s j (2 * after last)) where
   pub begins-at : {r : Begin} → BegunAfter j last greatest r → {start : ℕ} → r ≡ BeginAt start → BeginsAt (after last) g start
   begins-at (inl q) e = let z : _≡_ {A = ℕ} 0 1 = cc in absurd (omega arith)
-  begins-at (inr b) e = begins (after last) g _ (rw e at b)
+  begins-at (inr b) e = begins (after last) g _ (rw e at (b .1))
 
   pub over : {r : Begin} → BegunAfter j last greatest r → r ≡ Nowhere → greatest + 1 ≡ w .points → (p : ℕ) → after last ≤ p → p < w .points → column ls p ≡ nones ls
   over (inl q) e n p h l = absurd (omega arith)
-  over (inr b) e n p h l = nowhere (after last) g (rw e at b) p h
+  over (inr b) e n p h l = nowhere (after last) g (rw e at (b .1)) p h
 
 module _ {P : Type 0} {w : Width P} {c : Reading P} {ls : List (List Range)} {a : Arrays} {s : Slots} {j : JoinSweep} {start : ℕ} (o : Opened w c ls a s j start) where
   -- what is active has not ended
@@ -97,7 +97,7 @@ module _ {P : Type 0} {w : Width P} {c : Reading P} {ls : List (List Range)} {a 
 
   -- up to the held event
   module _ {k end : ℕ} (later : k ≤ start) (gap : (p : ℕ) → k ≤ p → p < start → column ls p ≡ nones ls) where
-    upto : {x : rules.Event ℤ} {z : Sizes} → Took w c a x z (o .joining .left) → start < edge x → end + 1 ≡ edge x → Later (2 * end + 1) (j .held) → StretchOf (w .points) ls k (active (length ls) s) start end × Joining w c ls a s j (2 * end + 1)
+    upto : {x : rules.Event ℤ} {z : Sizes} → Took w c a x z (o .joining .left) → start < edge x → end + 1 ≡ edge x → Later (2 * end + 1) (j .held) → Stretch (w .points) ls k (active (length ls) s) start end × Joining w c ls a s j (2 * end + 1)
     upto {x} e l r m =
         let f = rw (e .1) at (o .joining .front) in
         let n = kind-small x in (
@@ -111,10 +111,10 @@ module _ {P : Type 0} {w : Width P} {c : Reading P} {ls : List (List Range)} {a 
           moved (o .joining) (2 * end + 1) (omega arith) m,
         )
 
-    pub stretch : Reached (j .held) end → StretchOf (w .points) ls k (active (length ls) s) start end × Joining w c ls a s j (2 * end + 1)
+    pub stretch : Reached (j .held) end → Stretch (w .points) ls k (active (length ls) s) start end × Joining w c ls a s j (2 * end + 1)
     stretch r = go (j .held) refl (o .joining .holds) ahead r
       where
-        go : (h : Step) → j .held ≡ h → Holds w c a h (o .joining .left) → Ahead start h → Reached h end → StretchOf (w .points) ls k (active (length ls) s) start end × Joining w c ls a s j (2 * end + 1)
+        go : (h : Step) → j .held ≡ h → Holds w c a h (o .joining .left) → Ahead start h → Reached h end → Stretch (w .points) ls k (active (length ls) s) start end × Joining w c ls a s j (2 * end + 1)
         go (Start y list v z) q e l r = upto e l r (rw q (omega arith))
         go (End at list z) q e l r = upto e l r (rw q (omega arith))
         go Done q e l r = absurd l

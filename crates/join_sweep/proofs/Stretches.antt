@@ -1,5 +1,5 @@
 -- Where a stretch begins and how far it reaches. Assumes nothing.
-use Prim.Native.Nat.{ℕ, _+_, _-_, _≤_}
+use Prim.Native.Nat.{ℕ, _+_, _-_, _≤_, _<_}
 use mathlib.Core.Path.{_≡_, refl, sym, ap, _∙_}
 use mathlib.Core.Logic.{inl, inr}
 use native.Mathlib.Omega.{arith}
@@ -66,13 +66,13 @@ starts-with s {y = y} {list = list} {z = z} h q k = (y, sym q, h ∙ ap (λ i. S
 
 module _ (j : JoinSweep) (greatest : ℕ) {last : LastEnd} where
   pub begun-first : last ≡ Nothing → (r : Begin) → Begun j 0 r → BegunAfter j last greatest r
-  begun-first k (BeginAt s) b = inr (rw k b)
-  begun-first k Nowhere b = inr b
+  begun-first k (BeginAt s) b = inr (rw k (omega arith, b))
+  begun-first k Nowhere b = inr (rw k (omega arith, b))
 
   module _ {e : ℕ} (k : last ≡ At e) where
     pub begun-over : after last ≤ greatest + 1 → greatest ≤ e → BegunAfter j last greatest Nowhere
     begun-over h q = inl (omega (arith, ap after k), refl)
 
-    pub begun-next : (r : Begin) → Begun j (e + 1) r → BegunAfter j last greatest r
-    begun-next (BeginAt s) b = inr (rw k b)
-    begun-next Nowhere b = inr b
+    pub begun-next : e < greatest → (r : Begin) → Begun j (e + 1) r → BegunAfter j last greatest r
+    begun-next h (BeginAt s) b = inr (rw k (omega arith, b))
+    begun-next h Nowhere b = inr (rw k (omega arith, b))

@@ -10,11 +10,10 @@ use Rattle.rules.specs.Piece.{Range, AllWellFormed}
 use Rattle.rules.specs.Lists.{Width}
 use Rattle.rules.specs.Sweep as rules
 use Rattle.slots.specs.Slots.{Slots, active, Counted}
-use Rattle.slots.specs.Stretch.{Stretch as StretchOf, NoStretch}
+use Rattle.slots.specs.Stretch.{Stretch, NoStretch}
 use Rattle.multiway_sweep.specs.Front.{edge, Front, Next as Due}
 use Rattle.multiway_sweep.specs.Steps.{Reading, Arrays, NoStart, On, Holds}
 use Rattle.multiway_sweep.specs.declared.Range.{Range as Span}
-use Rattle.multiway_sweep.specs.declared.Sizes.{Sizes}
 use Rattle.multiway_sweep.specs.declared.Step.{Step}
 use Rattle.multiway_sweep.specs.declared.Step.the-variants.{Start, End, Done}
 use Rattle.join_sweep.specs.declared.Begin.{Begin}
@@ -26,8 +25,8 @@ use Rattle.join_sweep.specs.declared.Started.the-variants.{Of as StartOf
 use Rattle.join_sweep.specs.declared.JoinSweep.{JoinSweep}
 use Rattle.join_sweep.specs.declared.LastEnd.{LastEnd}
 use Rattle.join_sweep.specs.declared.LastEnd.the-variants.{Nothing, At}
-use Rattle.join_sweep.specs.declared.Stretch.{Stretch}
-use Rattle.join_sweep.specs.declared.Stretch.the-variants.{Next as Spans, Done as NoMore}
+use Rattle.join_sweep.specs.declared.NextStretch.{NextStretch}
+use Rattle.join_sweep.specs.declared.NextStretch.the-variants.{Next as Spans, Done as NoMore}
 
 -- a start at s is held
 abbrev pub StartsAt : ℕ → Step → Type 0
@@ -68,9 +67,9 @@ abbrev pub moment-of : LastEnd → ℕ
 moment-of Nothing = 0
 moment-of (At e) = 2 * e + 1
 
--- where the stretch after the last one begins, unless that ended at the greatest point
+-- where the stretch after the last one begins: nowhere exactly if that ended at the greatest point, or if nothing comes any more
 abbrev pub BegunAfter : JoinSweep → LastEnd → ℕ → Begin → Type 0
-BegunAfter j last greatest r = ((after last ≡ greatest + 1) × (r ≡ Nowhere)) ⊎ Begun j (after last) r
+BegunAfter j last greatest r = ((after last ≡ greatest + 1) × (r ≡ Nowhere)) ⊎ ((after last ≤ greatest) × Begun j (after last) r)
 
 -- an event is held that bears on no point up to s
 abbrev pub Ahead : ℕ → Step → Type 0
@@ -109,6 +108,6 @@ module _ {P : Type 0} (w : Width P) (c : Reading P) where
       pub busy : 0 < j .«active_count»
 
     -- the first stretch from k on and the sweep at its end, or there is none
-    abbrev pub Finds : ℕ → Stretch → Type 0
+    abbrev pub Finds : ℕ → NextStretch → Type 0
     Finds k NoMore = NoStretch (w .points) ls k
-    Finds k (Spans x j) = StretchOf (w .points) ls k (active (length ls) s) (x .start) (x .end) × Joining j (2 * x .end + 1)
+    Finds k (Spans x j) = Stretch (w .points) ls k (active (length ls) s) (x .start) (x .end) × Joining j (2 * x .end + 1)

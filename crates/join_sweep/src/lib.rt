@@ -20,7 +20,7 @@ pub enum LastEnd {
 }
 
 // The next stretch and the sweep at its end, or nothing is left.
-pub enum Stretch {
+pub enum NextStretch {
     Next(Range, JoinSweep),
     Done,
 }
@@ -103,7 +103,7 @@ pub fn begin_after(sweep: JoinSweep, last_end: LastEnd, greatest: u64) -> Begin
 }
 
 // A stretch runs to the next event: an end, or just before a start.
-pub fn reach(start: u64, held: Step) -> u64
+pub fn reach(held: Step, start: u64) -> u64
     requires { ⌜ Ahead start held ⌝ }
     ensures { λ r. ⌜ Reached held r ⌝ }
 {

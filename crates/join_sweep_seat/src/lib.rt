@@ -6,8 +6,8 @@ use join_sweep::Begin;
 use join_sweep::Ended;
 use join_sweep::JoinSweep;
 use join_sweep::LastEnd;
+use join_sweep::NextStretch;
 use join_sweep::Started;
-use join_sweep::Stretch;
 use join_sweep::begin_after;
 use join_sweep::ending;
 use join_sweep::reach;
@@ -74,7 +74,7 @@ pub fn next_stretch(
     present: &mut [bool; 16],
     sweep: JoinSweep,
     last_end: LastEnd,
-) -> Stretch
+) -> NextStretch
     requires joining { let a = arrays cursors «start_keys» «start_lists» «end_keys» «end_lists» in
         ⌜ ((ls : List (List rules.Range)) × Joining seats (reading starts ends values) ls a (slots current present) sweep (moment-of «last_end»)) ⌝ }
     requires within { ⌜ after «last_end» ≤ seats .points ⌝ }
@@ -109,7 +109,7 @@ pub fn next_stretch(
     }
     let begin = begin_after(JoinSweep { held, active_count }, last_end, greatest_key());
     let Begin::At(start) = begin else {
-        return Stretch::Done;
+        return NextStretch::Done;
     };
     loop {
         let started = starting(held, start);
@@ -131,6 +131,6 @@ pub fn next_stretch(
             sizes,
         );
     }
-    let end = reach(start, held);
-    Stretch::Next(Range { start, end }, JoinSweep { held, active_count })
+    let end = reach(held, start);
+    NextStretch::Next(Range { start, end }, JoinSweep { held, active_count })
 }

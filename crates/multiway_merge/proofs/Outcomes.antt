@@ -25,9 +25,9 @@ use Rattle.rules.proofs.Columns.{lists-length, lists-size}
 use Rattle.rules.proofs.Refusals.{formed-sound, lists-formed}
 use Rattle.rules.proofs.Room.{runs-room}
 use Rattle.rules.proofs.Same.{decides-ℤ}
-use Rattle.passes.specs.Settled.{settled}
-use Rattle.passes.specs.declared.Settled.{Settled}
-use Rattle.passes.specs.declared.Settled.the-variants.{Answered, Again}
+use Rattle.passes.specs.Conclusion.{concluded}
+use Rattle.passes.specs.declared.Conclusion.{Conclusion}
+use Rattle.passes.specs.declared.Conclusion.the-variants.{Answered, Again}
 use Rattle.passes.proofs.Turns.{Turn, turn-first, turn-answered, turn-again}
 use Rattle.form.specs.Shape.{Judged}
 use Rattle.many_way_rules.specs.Operations.{kind-of, rule-of, merged}
@@ -100,7 +100,7 @@ module _ {P : Type 0} {w : Width P} {o : Operation} {l : Lent P} {space : ℕ} {
         let q : d' ≡ done write c = p .is ∙ ap (done write) (i .turn .kept) in
         rw q (if-keeps (merged-takes w) 0 write (pieces w o l) c (λ t. omega (arith, i .turn .enough t)))
 
-    module _ {s : Settled} (q : s ≡ settled write n space) where
+    module _ {s : Conclusion} (q : s ≡ concluded write n space) where
       pub turns-answered : {a : Answer} → s ≡ Answered a → leaves a d' ≡ merging w o l c
       unfolding merging
       turns-answered h = rw (formed-sound w (kind-of o) l (i .formed)) (turn-answered done (λ c. refl) (i .turn) count (p .is) q h)

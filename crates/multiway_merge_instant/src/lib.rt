@@ -12,9 +12,9 @@ use multiway_pass::Piece;
 use multiway_pass::Ruling;
 use multiway_pass_instant::pass as join_pass;
 use multiway_pass_instant::put;
-use passes::Settled;
+use passes::Conclusion;
+use passes::conclude;
 use passes::most;
-use passes::settle;
 use rules::Answer;
 use rules::Judgement;
 use select_pass_instant::pass as select_pass;
@@ -133,8 +133,8 @@ pub fn merge_lists(
             out_end,
             out_value,
         );
-        let settled = settle(sure, count, room);
-        if let Settled::Answered(answer) = settled {
+        let conclusion = conclude(sure, count, room);
+        if let Conclusion::Answered(answer) = conclusion {
             return answer;
         }
         sure = true;

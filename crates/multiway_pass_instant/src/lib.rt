@@ -4,7 +4,7 @@ use integer::instant::Point;
 use integer::instant::put_key;
 use join_sweep::JoinSweep;
 use join_sweep::LastEnd;
-use join_sweep::Stretch;
+use join_sweep::NextStretch;
 use join_sweep_instant::first_event;
 use join_sweep_instant::next_stretch;
 use many_way_rules::Admission;
@@ -106,7 +106,7 @@ pub fn pass(
             sweep,
             last_end,
         );
-        let Stretch::Next(range, at) = stretch else {
+        let NextStretch::Next(range, at) = stretch else {
             return put(write, count, pending, out_start, out_end, out_value);
         };
         sweep = at;

@@ -4,7 +4,7 @@ use integer::seat::Point;
 use integer::seat::put_key;
 use join_sweep::JoinSweep;
 use join_sweep::LastEnd;
-use join_sweep::Stretch;
+use join_sweep::NextStretch;
 use join_sweep_seat::first_event;
 use join_sweep_seat::next_stretch;
 use many_way_rules::Admission;
@@ -106,7 +106,7 @@ pub fn pass(
             sweep,
             last_end,
         );
-        let Stretch::Next(range, at) = stretch else {
+        let NextStretch::Next(range, at) = stretch else {
             return put(write, count, pending, out_start, out_end, out_value);
         };
         sweep = at;

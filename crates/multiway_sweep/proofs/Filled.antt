@@ -21,11 +21,11 @@ use Rattle.rules.specs.Sweep.{events}
 use Rattle.rules.proofs.At.{le-or-lt}
 use Rattle.rules.proofs.Columns.{cut-length}
 use Rattle.multiway_sweep.specs.Cursors.{fresh, fresh-all}
-use Rattle.multiway_sweep.specs.Stands.{Holds, tally, first-start, at, actives, Stands}
+use Rattle.multiway_sweep.specs.Stands.{Entered, times, first-start, at, actives, Stands}
 use Rattle.multiway_sweep.specs.Steps.{next-at, stop-at}
 use Rattle.multiway_sweep.specs.Begins.{Fills}
 use Rattle.multiway_sweep.proofs.Cursors.{left-first}
-use Rattle.multiway_sweep.proofs.Holds.{holds-pushed, holds-same}
+use Rattle.multiway_sweep.proofs.Entered.{entered-pushed, entered-same}
 
 -- lists that lie end to end: where each begins, and that all lie before their total
 total-take : (k : ℕ) (ns : List ℕ) → total (take (k + 1) ns) ≡ total (take k ns) + getD ns k 0
@@ -62,8 +62,8 @@ module _ {A : Type 0} where
   fresh-idle [] = refl
   fresh-idle (l ∷ ls) = omega (arith, fresh-idle ls)
 
-holds-empty : {h : Entries} {f : ℕ → Option ℕ} → Whole h → ((i : ℕ) → f i ≡ none) → Holds h 0 f
-holds-empty {h} w q = record { heap = heap-none w; has = λ key list l. count-none (h .at) (rank key list) ∙ ap (λ o. tally o key) (sym (q list)) }
+entered-empty : {h : Entries} {f : ℕ → Option ℕ} → Whole h → ((i : ℕ) → f i ≡ none) → Entered h 0 f
+entered-empty {h} w q = record { heap = heap-none w; has = λ key list l. count-none (h .at) (rank key list) ∙ ap (λ o. times o key) (sym (q list)) }
 
 -- the first start of a list of n ranges
 abbrev opening : ℕ → ℕ → Option ℕ
@@ -100,7 +100,7 @@ module _ (s : ℕ → ℕ) (ns : List ℕ) where
     pub cursors-long : length cursors ≡ 32
     pub next-laid : (i : ℕ) → i < k → next-at cursors i ≡ total (take i ns)
     pub stop-laid : (i : ℕ) → i < k → stop-at cursors i ≡ total (take (i + 1) ns)
-    pub firsts : Holds h size (opens k)
+    pub firsts : Entered h size (opens k)
 
   pub laid-none : {long : ℕ} {cursors : List ℕ} {h : Entries} → length ns ≤ 16 → total ns ≡ long → length cursors ≡ 32 → Whole h → Laid long cursors h 0 0 0
   laid-none few adds-up cursors-long whole = record {
@@ -112,7 +112,7 @@ module _ (s : ℕ → ℕ) (ns : List ℕ) where
     cursors-long = cursors-long;
     next-laid = λ i l. absurd (omega arith);
     stop-laid = λ i l. absurd (omega arith);
-    firsts = holds-empty whole (λ i. rw (le-ltb i 0 (omega arith)));
+    firsts = entered-empty whole (λ i. rw (le-ltb i 0 (omega arith)));
   }
 
   -- one more list
@@ -133,7 +133,7 @@ module _ (s : ℕ → ℕ) (ns : List ℕ) where
     pub laid-within : stop ≤ long
     laid-within = omega (arith, g .adds-up, ends-at, total-upto (k + 1) ns)
 
-    laid-more : {r : Entries} {m : ℕ} → m ≤ k + 1 → Holds r m (opens (k + 1)) → Laid long onward r m (k + 1) stop
+    laid-more : {r : Entries} {m : ℕ} → m ≤ k + 1 → Entered r m (opens (k + 1)) → Laid long onward r m (k + 1) stop
     laid-more l f = record {
       few = g .few;
       adds-up = g .adds-up;
@@ -151,13 +151,13 @@ module _ (s : ℕ → ℕ) (ns : List ℕ) where
     }
 
     pub laid-empty : stop ≤ from → Laid long onward h size (k + 1) stop
-    laid-empty l = laid-more (omega (arith, g .small)) (holds-same same (g .firsts))
+    laid-empty l = laid-more (omega (arith, g .small)) (entered-same same (g .firsts))
       where
         same : (i : ℕ) → opens (k + 1) i ≡ opens k i
         same i = by-eq i k (λ q. let z : getD ns i 0 ≡ 0 = omega (arith, ap (λ j. getD ns j 0) q) in rw (lt-ltb i (k + 1) (omega arith), z, le-ltb i k (omega arith))) (opens-other k i)
 
     pub laid-push : {r : Entries} {key : ℕ} → from < stop → key ≡ s from → Pushed h r size (rank key k) → Laid long onward r (size + 1) (k + 1) stop
-    laid-push {key = key} l q p = laid-more (omega (arith, g .small)) (holds-pushed (g .firsts) k (omega (arith, g .few)) (opens-other k) (rw (le-ltb k k (omega arith))) first p)
+    laid-push {key = key} l q p = laid-more (omega (arith, g .small)) (entered-pushed (g .firsts) k (omega (arith, g .few)) (opens-other k) (rw (le-ltb k k (omega arith))) first p)
       where
         first : opens (k + 1) k ≡ some key
         first = rw (lt-ltb k (k + 1) (omega arith), ← g .begins, ← q, opening-some key (getD ns k 0) (omega arith))
@@ -171,14 +171,14 @@ module _ {A : Type 0} (n : ℕ) (s e : ℕ → ℕ) (v : ℕ → A) (ns : List �
   all-laid {cursors = cursors} {k = k} g all w wf = record {
     cursors = fresh-all ls;
     few = omega (arith, g .few, all-of);
-    sound = left-first n ls wf .0;
+    past = left-first n ls wf .0;
     lies = λ i h.
         let p = g .next-laid i (omega (arith, all-of)) in
         let z : stop-at cursors i - next-at cursors i ≡ getD ns i 0 = omega (arith, p, g .stop-laid i (omega (arith, all-of)), total-take i ns) in
         as-cut i ∙ rw (z, p);
     inside = λ i h. omega (arith, g .adds-up, g .stop-laid i (omega (arith, all-of)), total-upto (i + 1) ns);
-    holds-starts = holds-same opened (g .firsts);
-    holds-ends = holds-empty w (λ i. ap (λ c. c .active) (fresh-at i ls));
+    entered-starts = entered-same opened (g .firsts);
+    entered-ends = entered-empty w (λ i. ap (λ c. c .active) (fresh-at i ls));
     counted = sym (fresh-idle ls);
     is-left = left-first n ls wf .1;
   }

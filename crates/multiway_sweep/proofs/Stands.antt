@@ -16,9 +16,9 @@ use Rattle.rules.proofs.Same.{none≢some}
 use Rattle.rules.proofs.At.{le-or-lt}
 use Rattle.rules.proofs.Columns.{ranges-more, ranges-done}
 use Rattle.multiway_sweep.specs.Cursors.{Cursor, fresh, left, StartNext, EndNext}
-use Rattle.multiway_sweep.specs.Stands.{View, Holds, first-start, at, amount, actives, Stands, Start}
-use Rattle.multiway_sweep.proofs.Cursors.{next-start, next-end, sound-at, sound-start, sound-end, not-active, left-done}
-use Rattle.multiway_sweep.proofs.Holds.{holds-top, holds-least, holds-none, holds-pushed, holds-popped, holds-topped, holds-same}
+use Rattle.multiway_sweep.specs.Stands.{View, Entered, first-start, at, amount, actives, Stands, Start}
+use Rattle.multiway_sweep.proofs.Cursors.{next-start, next-end, past-at, past-start, past-end, not-active, left-done}
+use Rattle.multiway_sweep.proofs.Entered.{entered-top, entered-least, entered-none, entered-pushed, entered-popped, entered-topped, entered-same}
 
 amount-few : (o : Option ℕ) → amount o ≤ 1
 amount-few none = omega arith
@@ -72,26 +72,26 @@ module _ {A : Type 0} {n : ℕ} {s e : ℕ → ℕ} {v : ℕ → A} {long : ℕ}
 
   -- nothing is left where both heaps are empty
   pub all-done : starts ≡ 0 → ends ≡ 0 → rest ≡ []
-  all-done p q = sym (st .is-left) ∙ left-done cs (λ i h. λ t. record { active = holds-none (st .holds-ends) q i (few h) t; ranges = none-first (at cs i .ranges) (holds-none (st .holds-starts) p i (few h)) t })
+  all-done p q = sym (st .is-left) ∙ left-done cs (λ i h. λ t. record { active = entered-none (st .entered-ends) q i (few h) t; ranges = none-first (at cs i .ranges) (entered-none (st .entered-starts) p i (few h)) t })
 
   -- the tops of the two heaps: a start of the list j, and an end of the list k
   module _ (skey j ekey k : ℕ) (top : x .starts .at 0 ≡ rank skey j) (peak : x .active-ends .at 0 ≡ rank ekey k) where
     starts-from : (i : ℕ) (y : Piece A) (ys : List (Piece A)) → i < length cs → at cs i .ranges ≡ y ∷ ys → (skey ≤ y .start) × (skey ≡ y .start → j ≤ i)
-    starts-from i y ys h q = holds-least (st .holds-starts) skey j i (y .start) (few h) top (ap first-start q)
+    starts-from i y ys h q = entered-least (st .entered-starts) skey j i (y .start) (few h) top (ap first-start q)
 
     ends-from : (i q : ℕ) → i < length cs → at cs i .active ≡ some q → (ekey ≤ q) × (ekey ≡ q → k ≤ i)
-    ends-from i q h a = holds-least (st .holds-ends) ekey k i q (few h) peak a
+    ends-from i q h a = entered-least (st .entered-ends) ekey k i q (few h) peak a
 
     end-next : (starts ≡ 0) ⊎ (ekey < skey) → EndNext ekey k cs
     end-next d = record {
-      starts-later = λ i y ys h q. ⊎-elim (λ z. absurd (clash (holds-none (st .holds-starts) z i (few h)) (ap first-start q))) (λ l. omega (arith, starts-from i y ys h q .0)) d;
+      starts-later = λ i y ys h q. ⊎-elim (λ z. absurd (clash (entered-none (st .entered-starts) z i (few h)) (ap first-start q))) (λ l. omega (arith, starts-from i y ys h q .0)) d;
       ends-later = λ i q h a. ends-from i q h a .0;
       lower = λ i q h a. ends-from i q h a .1;
     }
 
     start-next : (ends ≡ 0) ⊎ (skey ≤ ekey) → StartNext skey j cs
     start-next d = record {
-      ends-later = λ i q h a. ⊎-elim (λ z. absurd (clash (holds-none (st .holds-ends) z i (few h)) a)) (λ l. omega (arith, ends-from i q h a .0)) d;
+      ends-later = λ i q h a. ⊎-elim (λ z. absurd (clash (entered-none (st .entered-ends) z i (few h)) a)) (λ l. omega (arith, ends-from i q h a .0)) d;
       starts-later = λ i y ys h q. starts-from i y ys h q .0;
       lower = λ i y ys h q. starts-from i y ys h q .1;
     }
@@ -100,22 +100,22 @@ module _ {A : Type 0} {n : ℕ} {s e : ℕ → ℕ} {v : ℕ → A} {long : ℕ}
     pub ended : k < 256 → 0 < ends → (starts ≡ 0) ⊎ (ekey < skey) → {r : Entries} → Popped (x .active-ends) r ends → Goes (events.ends ekey k) (record { next = x .next; stops = x .stops; starts = x .starts; active-ends = r }) starts (ends - 1)
     ended kl p d {r} pop = (
       left cs',
-      sym (st .is-left) ∙ next-end n k cs (st .sound) kc ekey (at cs k .ranges) active refl (end-next d),
+      sym (st .is-left) ∙ next-end n k cs (st .past) kc ekey (at cs k .ranges) active refl (end-next d),
       record {
         cursors = cs';
         few = omega (arith, st .few, long-as);
-        sound = sound-end n k cs (st .sound) kc (at cs k .ranges) refl;
+        past = past-end n k cs (st .past) kc (at cs k .ranges) refl;
         lies = λ i h. ranges-as i ∙ st .lies i (omega (arith, long-as));
         inside = λ i h. st .inside i (omega (arith, long-as));
-        holds-starts = holds-same (λ i. ap first-start (ranges-as i)) (st .holds-starts);
-        holds-ends = holds-popped (st .holds-ends) k kl (λ i ne. ap (λ c. c .active) (at-other cs k i c' ne)) active (ap (λ c. c .active) (at-same cs k c' kc)) peak pop;
+        entered-starts = entered-same (λ i. ap first-start (ranges-as i)) (st .entered-starts);
+        entered-ends = entered-popped (st .entered-ends) k kl (λ i ne. ap (λ c. c .active) (at-other cs k i c' ne)) active (ap (λ c. c .active) (at-same cs k c' kc)) peak pop;
         counted = omega (arith, st .counted, actives-set cs k c' kc, ap amount active);
         is-left = refl;
       },
     )
       where
         active : at cs k .active ≡ some ekey
-        active = holds-top (st .holds-ends) ekey k kl p peak
+        active = entered-top (st .entered-ends) ekey k kl p peak
 
         kc : k < length cs
         kc = listed (λ c. c .active) ekey cs k refl active
@@ -138,7 +138,7 @@ module _ {A : Type 0} {n : ℕ} {s e : ℕ → ℕ} {v : ℕ → A} {long : ℕ}
       place = x .next j
 
       first : first-start (at cs j .ranges) ≡ some skey
-      first = holds-top (st .holds-starts) skey j jl p top
+      first = entered-top (st .entered-starts) skey j jl p top
 
       jc : j < length cs
       jc = listed (λ c. first-start (c .ranges)) skey cs j refl first
@@ -163,7 +163,7 @@ module _ {A : Type 0} {n : ℕ} {s e : ℕ → ℕ} {v : ℕ → A} {long : ℕ}
 
       module _ (d : (ends ≡ 0) ⊎ (skey ≤ ekey)) where
         idle : at cs j .active ≡ none
-        idle = not-active n (at cs j .active) (range s e v place) after (rw lies-on at (sound-at n j cs (st .sound) jc)) (λ q a. omega (arith, start-next d .ends-later j q jc a, found .1))
+        idle = not-active n (at cs j .active) (range s e v place) after (rw lies-on at (past-at n j cs (st .past) jc)) (λ q a. omega (arith, start-next d .ends-later j q jc a, found .1))
 
         counts : actives cs' ≡ actives cs + 1
         counts = omega (arith, actives-set cs j c' jc, ap amount idle)
@@ -186,18 +186,18 @@ module _ {A : Type 0} {n : ℕ} {s e : ℕ → ℕ} {v : ℕ → A} {long : ℕ}
               (λ ne. ap (λ c. c .ranges) (at-other cs j i c' ne) ∙ st .lies i (omega (arith, long-as)) ∙ ap (λ m. ranges s e v m (x .stops i - m)) (sym (kept i ne))))
               ∙ ap (λ b. ranges s e v (next' i) (b - next' i)) (sym (stays i))
 
-          started : {r q : Entries} {m : ℕ} → Pushed (x .active-ends) q ends (rank (e place) j) → Holds r m (λ i. first-start (at cs' i .ranges)) → Goes (events.starts skey j (v place)) (record { next = next'; stops = stops'; starts = r; active-ends = q }) m (ends + 1)
+          started : {r q : Entries} {m : ℕ} → Pushed (x .active-ends) q ends (rank (e place) j) → Entered r m (λ i. first-start (at cs' i .ranges)) → Goes (events.starts skey j (v place)) (record { next = next'; stops = stops'; starts = r; active-ends = q }) m (ends + 1)
           started push g = (
             left cs',
-            sym (st .is-left) ∙ next-start n j cs (st .sound) jc (range s e v place) after lies-on (rw (found .1) at (start-next d)) ∙ ap (λ z. events.starts z j (v place) ∷ left cs') (sym (found .1)),
+            sym (st .is-left) ∙ next-start n j cs (st .past) jc (range s e v place) after lies-on (rw (found .1) at (start-next d)) ∙ ap (λ z. events.starts z j (v place) ∷ left cs') (sym (found .1)),
             record {
               cursors = cs';
               few = omega (arith, st .few, long-as);
-              sound = sound-start n j cs (st .sound) jc (range s e v place) after lies-on;
+              past = past-start n j cs (st .past) jc (range s e v place) after lies-on;
               lies = lies';
               inside = λ i h. omega (arith, st .inside i (omega (arith, long-as)), stays i);
-              holds-starts = g;
-              holds-ends = holds-pushed (st .holds-ends) j jl (λ i ne. ap (λ c. c .active) (at-other cs j i c' ne)) idle (ap (λ c. c .active) (at-same cs j c' jc)) push;
+              entered-starts = g;
+              entered-ends = entered-pushed (st .entered-ends) j jl (λ i ne. ap (λ c. c .active) (at-other cs j i c' ne)) idle (ap (λ c. c .active) (at-same cs j c' jc)) push;
               counted = omega (arith, st .counted, counts);
               is-left = refl;
             },
@@ -210,7 +210,7 @@ module _ {A : Type 0} {n : ℕ} {s e : ℕ → ℕ} {v : ℕ → A} {long : ℕ}
           first-own = ap (λ c. first-start (c .ranges)) (at-same cs j c' jc)
 
           pub started-more : {r q : Entries} → Pushed (x .active-ends) q ends (rank (e place) j) → place + 1 < x .stops j → Topped (x .starts) r starts (rank (s (place + 1)) j) → Goes (events.starts skey j (v place)) (record { next = next'; stops = stops'; starts = r; active-ends = q }) starts (ends + 1)
-          started-more push l t = started push (holds-topped (st .holds-starts) j jl first-other first (first-own ∙ ap first-start (ranges-more s e v (place + 1) (x .stops j) l)) top t)
+          started-more push l t = started push (entered-topped (st .entered-starts) j jl first-other first (first-own ∙ ap first-start (ranges-more s e v (place + 1) (x .stops j) l)) top t)
 
           pub started-last : {r q : Entries} → Pushed (x .active-ends) q ends (rank (e place) j) → x .stops j ≤ place + 1 → Popped (x .starts) r starts → Goes (events.starts skey j (v place)) (record { next = next'; stops = stops'; starts = r; active-ends = q }) (starts - 1) (ends + 1)
-          started-last push l t = started push (holds-popped (st .holds-starts) j jl first-other first (first-own ∙ ap first-start (ranges-done s e v (place + 1) (x .stops j) l)) top t)
+          started-last push l t = started push (entered-popped (st .entered-starts) j jl first-other first (first-own ∙ ap first-start (ranges-done s e v (place + 1) (x .stops j) l)) top t)

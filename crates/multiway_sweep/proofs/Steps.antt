@@ -27,7 +27,7 @@ module _ {P : Type 0} {w : Width P} {c : Reading P} {a : Arrays} {z : Sizes} {re
   end-key = getD (a .end-keys) 0 0
 
   pub ends-heap : Heap (entries-of (a .end-keys) (a .end-lists)) (z .«active_ends»)
-  ends-heap = g .stands .holds-ends .heap
+  ends-heap = g .stands .entered-ends .heap
 
   -- the end on top of its heap goes
   pub end-taken : {k : ℕ} → (k ≡ getD (a .end-lists) 0 0) × (k < 256) → (0 < z .«active_ends») × ((z .starts ≡ 0) ⊎ (end-key < start-key)) → {ks ls : List ℕ} → Popped (entries-of (a .end-keys) (a .end-lists)) (entries-of ks ls) (z .«active_ends») → Stepped w c a (record { cursors = a .cursors; start-keys = a .start-keys; start-lists = a .start-lists; end-keys = ks; end-lists = ls }) rest (End end-key k (record { starts = z .starts; «active_ends» = z .«active_ends» - 1 }))

@@ -40,9 +40,9 @@ module _ {A : Type 0} where
   Past n none xs = Within 0 n xs
   Past n (some p) xs = Within (p + 1) n xs
 
-  abbrev pub Sound : ℕ → List (Cursor A) → Type 0
-  Sound n [] = Unit {0}
-  Sound n (c ∷ cs) = Past n (c .active) (c .ranges) × Sound n cs
+  abbrev pub AllPast : ℕ → List (Cursor A) → Type 0
+  AllPast n [] = Unit {0}
+  AllPast n (c ∷ cs) = Past n (c .active) (c .ranges) × AllPast n cs
 
   -- a start at s of the list j is the next event; so is an end at p
   pub record StartNext (s j : ℕ) (cs : List (Cursor A)) : Type 0 where

@@ -9,7 +9,7 @@ use Rattle.heap.specs.Heap.{Entries, Heap, many, rank}
 use Rattle.rules.specs.Piece.{Piece}
 use Rattle.rules.specs.Lists.{ranges}
 use Rattle.rules.specs.Sweep.{Event}
-use Rattle.multiway_sweep.specs.Cursors.{Cursor, fresh, left, Sound}
+use Rattle.multiway_sweep.specs.Cursors.{Cursor, fresh, left, AllPast}
 
 -- what is to be known of the arrays
 pub record View : Type 0 where
@@ -19,9 +19,9 @@ pub record View : Type 0 where
   pub active-ends : Entries
 
 -- how often an entry with the key k stands for what a list has
-abbrev pub tally : Option ℕ → ℕ → ℕ
-tally none k = 0
-tally (some p) k = one p k
+abbrev pub times : Option ℕ → ℕ → ℕ
+times none k = 0
+times (some p) k = one p k
 
 -- 1 where a list has something
 abbrev pub amount : Option ℕ → ℕ
@@ -29,9 +29,9 @@ amount none = 0
 amount (some p) = 1
 
 -- a heap of m entries holds, for each list i that has one, the key f i
-pub record Holds (h : Entries) (m : ℕ) (f : ℕ → Option ℕ) : Type 0 where
+pub record Entered (h : Entries) (m : ℕ) (f : ℕ → Option ℕ) : Type 0 where
   pub heap : Heap h m
-  pub has : (key list : ℕ) → list < 256 → many h m (rank key list) ≡ tally (f list) key
+  pub has : (key list : ℕ) → list < 256 → many h m (rank key list) ≡ times (f list) key
 
 module _ {A : Type 0} where
   abbrev pub first-start : List (Piece A) → Option ℕ
@@ -50,11 +50,11 @@ module _ {A : Type 0} where
   pub record Stands (n : ℕ) (s e : ℕ → ℕ) (v : ℕ → A) (long : ℕ) (x : View) (starts ends : ℕ) (rest : List (Event A)) : Type 0 where
     pub cursors : List (Cursor A)
     pub few : length cursors ≤ 16
-    pub sound : Sound n cursors
+    pub past : AllPast n cursors
     pub lies : (i : ℕ) → i < length cursors → at cursors i .ranges ≡ ranges s e v (x .next i) (x .stops i - x .next i)
     pub inside : (i : ℕ) → i < length cursors → x .stops i ≤ long
-    pub holds-starts : Holds (x .starts) starts (λ i. first-start (at cursors i .ranges))
-    pub holds-ends : Holds (x .active-ends) ends (λ i. at cursors i .active)
+    pub entered-starts : Entered (x .starts) starts (λ i. first-start (at cursors i .ranges))
+    pub entered-ends : Entered (x .active-ends) ends (λ i. at cursors i .active)
     pub counted : ends ≡ actives cursors
     pub is-left : left cursors ≡ rest
 

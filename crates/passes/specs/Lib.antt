@@ -1,2 +1,2 @@
 -- What the contracts of the passes say.
-pub mod Settled
+pub mod Conclusion

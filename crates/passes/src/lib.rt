@@ -1,12 +1,12 @@
-// Going over the lists once or twice: how many pieces there can be, and what is settled after a pass.
+// Going over the lists once or twice: how many pieces there can be, and what a pass concludes.
 
 use rules::Answer;
 ghost use Prim.Native.Nat.{_*_, _-_, _≤_};
 ghost use mathlib.Core.Path.{_≡_};
-ghost use Rattle.passes.specs.Settled.{settled};
+ghost use Rattle.passes.specs.Conclusion.{concluded};
 
-// What a pass settles: the answer, or nothing yet, and the next pass writes.
-pub enum Settled {
+// What a pass concludes: the answer, or nothing yet, and the next pass writes.
+pub enum Conclusion {
     Answered(Answer),
     Again,
 }
@@ -19,15 +19,15 @@ pub fn most(ranges: usize) -> usize
     if ranges == 0 { 0 } else { 2 * ranges - 1 }
 }
 
-// What is settled by a pass that wrote its pieces or only counted them, with room for so many.
-pub fn settle(wrote: bool, count: usize, room: usize) -> Settled
-    ensures { λ r. ⌜ r ≡ settled wrote count room ⌝ }
+// What is concluded from a pass that wrote its pieces or only counted them, with room for so many.
+pub fn conclude(wrote: bool, count: usize, room: usize) -> Conclusion
+    ensures { λ r. ⌜ r ≡ concluded wrote count room ⌝ }
 {
     if wrote {
-        return Settled::Answered(Answer::Done(count));
+        return Conclusion::Answered(Answer::Done(count));
     }
     if room < count {
-        return Settled::Answered(Answer::NoRoom(count));
+        return Conclusion::Answered(Answer::NoRoom(count));
     }
-    Settled::Again
+    Conclusion::Again
 }

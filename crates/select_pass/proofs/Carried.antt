@@ -14,8 +14,8 @@ use Rattle.rules.specs.Piece.{present, there}
 use Rattle.many_way_rules.specs.Selections.{admitted, picked}
 use Rattle.many_way_rules.specs.declared.Admission.{Admission}
 use Rattle.many_way_rules.specs.declared.Pick.the-variants.{Highest}
-use Rattle.many_way_rules.proofs.Selections.{by-number, admitted-number, highest-none, highest-exactly}
-use Rattle.active_lists.specs.Active.{Set, with, without, has, number, HighestIn, IsHighest, Known, Numbers}
+use Rattle.many_way_rules.proofs.Selections.{highest-none, highest-exactly}
+use Rattle.active_lists.specs.Active.{Set, with, without, has, HighestIn, IsHighest, Known, Numbers}
 use Rattle.active_lists.specs.Kept.{Active, Stands}
 use Rattle.active_lists.specs.declared.HighestActive.{HighestActive}
 use Rattle.active_lists.specs.declared.HighestActive.the-variants.{List as Top, Nothing}
@@ -25,7 +25,7 @@ use Rattle.multiway_sweep.specs.declared.Range.{Range as Span}
 use Rattle.multiway_sweep.specs.declared.Sizes.{Sizes}
 use Rattle.multiway_sweep.specs.declared.Step.{Step}
 use Rattle.multiway_sweep.specs.declared.Step.the-variants.{Start, End, Done}
-use Rattle.select_pass.specs.Stretches.{StartsAfter}
+use Rattle.select_pass.specs.Stretches.{starts-after}
 use Rattle.select_pass.specs.Selections.{Held, Carried, chosen, Fits, Due, taken}
 use Rattle.select_pass.specs.declared.StretchStart.the-variants.{At, Nowhere}
 use Rattle.select_pass.proofs.Stretches.{after-start, after-end, after-last, after-nothing}
@@ -40,10 +40,6 @@ top-is f r h t = rw h at t
 
 pub top-none : (f : Set) (r : HighestActive) → r ≡ Nothing → IsHighest f r → IsHighest f Nothing
 top-none f r h t = rw h at t
-
--- a point is admitted by how many lists are active
-pub by-active : (a : Admission) (act : Held) → length act ≤ 16 → by-number a (length act) (number (has act)) ≡ admitted a act
-by-active a act h = rw (number-present act h) (admitted-number a act)
 
 module _ (a : Admission) (act : Held) {b : Bool} (e : b ≡ admitted a act) where
   pub not-kept : b ≡ false → none ≡ chosen a act
@@ -113,7 +109,7 @@ module _ (e : Step) {y : Span} {list : ℕ} {v : ℤ} {z : Sizes} (h : e ≡ Sta
     pub start-idle : has act list ≡ false
     start-idle = ap there (start-fits act f .1)
 
-    pub start-taken : (greatest : ℕ) {u : ℤ} → u ≡ v → {active' : Active} → Stands active' (with (has act) list) → let after = taken e act in Carried (set current list u) active' after × StartsAfter e (length (present after)) greatest (At (y .start))
+    pub start-taken : (greatest : ℕ) {u : ℤ} → u ≡ v → {active' : Active} → Stands active' (with (has act) list) → let after = taken e act in Carried (set current list u) active' after × (At (y .start) ≡ starts-after e (length (present after)) greatest)
     start-taken greatest q s = (rw h (began k (start-fits act f .0) q s), after-start e (length (present (taken e act))) greatest h)
 
 module _ (e : Step) {at list : ℕ} {z : Sizes} (h : e ≡ End at list z) where
@@ -134,12 +130,12 @@ module _ (e : Step) {at list : ℕ} {z : Sizes} (h : e ≡ End at list z) where
       active-number : {n : ℕ} → Numbers (Stands active') n → n ≡ length (present (taken e act))
       active-number c = c (has (taken e act)) (end-carried .stands) ∙ number-present (taken e act) (end-carried .few)
 
-      pub end-taken : (greatest : ℕ) → let after = taken e act in Carried current active' after × StartsAfter e (length (present after)) greatest (At (at + 1))
-      end-taken greatest = (end-carried, after-end e (length (present (taken e act))) greatest h)
+      pub end-taken : (n greatest : ℕ) → Numbers (Stands active') n → (ltb 0 n && ltb at greatest) ≡ true → let after = taken e act in Carried current active' after × (At (at + 1) ≡ starts-after e (length (present after)) greatest)
+      end-taken n greatest c q = (end-carried, subst (λ m. At (at + 1) ≡ starts-after e m greatest) (active-number c) (after-end e n greatest h q))
 
       -- the stretch after it has no point, or no list is active then
-      pub last-taken : (n greatest : ℕ) → Numbers (Stands active') n → (ltb 0 n && ltb at greatest) ≡ false → let after = taken e act in Carried current active' after × StartsAfter e (length (present after)) greatest Nowhere
-      last-taken n greatest c q = (end-carried, subst (λ m. StartsAfter e m greatest Nowhere) (active-number c) (after-last e n greatest h q))
+      pub last-taken : (n greatest : ℕ) → Numbers (Stands active') n → (ltb 0 n && ltb at greatest) ≡ false → let after = taken e act in Carried current active' after × (Nowhere ≡ starts-after e (length (present after)) greatest)
+      last-taken n greatest c q = (end-carried, subst (λ m. Nowhere ≡ starts-after e m greatest) (active-number c) (after-last e n greatest h q))
 
-pub none-taken : (e : Step) → e ≡ Done → {current : List ℤ} {active : Active} {act : Held} → Carried current active act → (greatest : ℕ) → let after = taken e act in Carried current active after × StartsAfter e (length (present after)) greatest Nowhere
+pub none-taken : (e : Step) → e ≡ Done → {current : List ℤ} {active : Active} {act : Held} → Carried current active act → (greatest : ℕ) → let after = taken e act in Carried current active after × (Nowhere ≡ starts-after e (length (present after)) greatest)
 none-taken e h {act = act} k greatest = (rw h k, after-nothing e (length (present (taken e act))) greatest h)

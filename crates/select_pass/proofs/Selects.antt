@@ -1,14 +1,14 @@
 -- What a selection's pass keeps, event by event: the lists have what is carried, and the points up to the first that the next event can bear on are dealt with. Assumes nothing.
-use Prim.Native.Nat.{ℕ, suc, _+_, _*_, _-_, _≤_, _<_}
+use Prim.Native.Nat.{ℕ, _+_, _*_, _-_, _≤_, _<_}
 use mathlib.Core.Path.{_≡_, refl, sym, ap, _∙_, subst}
 use mathlib.Core.Logic.{_⊎_, inl, inr}
-use mathlib.Core.Bool.{Bool, true, false}
+use mathlib.Core.Bool.{Bool, false}
 use mathlib.Core.Option.{Option, none, some}
 use mathlib.Core.List.{List, [], _∷_}
 use native.Mathlib.Omega.{arith}
 use lib.IntN.{ℤ, pos}
 use lib.ListN.{length, getD, replicate, length-map, List·getD-map}
-use Rattle.rules.specs.Piece.{Piece, Range, column, present, there, AllWellFormed, Within}
+use Rattle.rules.specs.Piece.{Range, column, present, there, AllWellFormed, Within}
 use Rattle.rules.specs.Lists.{Width, Lent, lists}
 use Rattle.rules.specs.Same.{eqℤ}
 use Rattle.rules.specs.Runs.{says}
@@ -32,7 +32,7 @@ use Rattle.active_lists.specs.Kept.{Active, Stands}
 use Rattle.active_lists.proofs.Stands.{stands-same}
 use Rattle.slots.proofs.Slots.{count-none}
 use Rattle.slots.specs.Stretch.{Stretch, NoStretch}
-use Rattle.multiway_sweep.specs.Front.{edge, apply, Front, Next}
+use Rattle.multiway_sweep.specs.Front.{edge, apply, Front}
 use Rattle.multiway_sweep.specs.Begins.{Fills}
 use Rattle.multiway_sweep.specs.Steps.{Arrays, reads, On, sizes-after, Sweeping, Stepped}
 use Rattle.multiway_sweep.specs.declared.Range.{Range as Span}
@@ -45,12 +45,13 @@ use Rattle.multiway_pass.specs.Passes.{Puttable, PutPieces}
 use Rattle.multiway_sweep.proofs.Begun.{events-count, begun}
 use Rattle.multiway_pass.proofs.Merges.{lists-few, merge}
 use Rattle.multiway_pass.proofs.Walks.{Walk, Going, skipped, turn-silent, turn-apart, turn-puttable, turn-more}
-use Rattle.select_pass.specs.Stretches.{StretchesTo, StartsAfter}
+use Rattle.select_pass.specs.Stretches.{StretchesTo, starts-after}
 use Rattle.select_pass.specs.Selections.{Held, Carried, chosen, recorded, Fits, taken}
 use Rattle.select_pass.specs.declared.StretchStart.{StretchStart}
 use Rattle.select_pass.specs.declared.StretchStart.the-variants.{At, Nowhere}
 use Rattle.select_pass.specs.declared.StretchBefore.{StretchBefore}
 use Rattle.select_pass.specs.declared.StretchBefore.the-variants.{Of, Nothing}
+use Rattle.select_pass.proofs.Stretches.{Bears, bears}
 
 -- where a stretch starts: at p; or no list has anything, or p is past the line
 abbrev pub StartsFrom : ℕ → List (List Range) → Held → ℕ → StretchStart → Type 0
@@ -207,12 +208,12 @@ module _ {P : Type 0} {w : Width P} {l : Lent P} {a : Arrays} {z : Sizes} {curre
       idle : length (present (taken e (g .act))) ≡ 0 → apply x (g .act) ≡ nones ls
       idle u = count-none (apply x (g .act)) ls (front-length (w .points) ls (g .formed) took) (rw (k .changes) at u)
 
-      starts-from : (s : StretchStart) → StartsAfter e (length (present (taken e (g .act)))) greatest s → StartsFrom (w .points) ls (apply x (g .act)) (edge x) s
+      starts-from : (s : StretchStart) → Bears e (length (present (taken e (g .act)))) greatest s → StartsFrom (w .points) ls (apply x (g .act)) (edge x) s
       starts-from (At s) t = on-that (λ v. s ≡ edge v) ⊥ e (k .that) t
       starts-from Nowhere (inl t) = inl (idle t)
       starts-from Nowhere (inr t) = inr (omega (arith, inside, on-that (λ v. greatest < edge v) (Unit {0}) e (k .that) t))
 
-      pub next : (s : StretchStart) → StartsAfter e (length (present (taken e (g .act)))) greatest s → {y : Sizes} → y ≡ sizes-after e z → Selecting w l b y current' active' s (n - 1) (edge x)
+      pub next : (s : StretchStart) → s ≡ starts-after e (length (present (taken e (g .act)))) greatest → {y : Sizes} → y ≡ sizes-after e z → Selecting w l b y current' active' s (n - 1) (edge x)
       next s t q =
           let v = kind-small x in
           record {
@@ -226,7 +227,7 @@ module _ {P : Type 0} {w : Width P} {l : Lent P} {a : Arrays} {z : Sizes} {curre
             sweeping = rw q (k .past);
             carried = carried;
             counted = omega (arith, g .counted, ap length (k .is));
-            start = starts-from s t;
+            start = starts-from s (bears e (length (present (taken e (g .act)))) greatest t);
           }
 
 -- before the first event

@@ -2,16 +2,18 @@
 use Prim.Native.Nat.{ℕ, _+_, _-_, _≤_, _<_}
 use mathlib.Core.Path.{_≡_, refl, sym}
 use mathlib.Core.Logic.{_⊎_, inl, inr}
-use mathlib.Core.Bool.{Bool, true, false, true≢false, _&&_}
+use mathlib.Core.Bool.{Bool, true, false, true≢false, cond, _&&_}
 use native.Mathlib.Omega.{arith}
 use lib.Dec.{ltb}
 use lib.IntN.{ℤ}
 use borrow.Author.Tests.{ltb-true, ltb-false}
+use Rattle.multiway_sweep.specs.Front.{edge}
+use Rattle.multiway_sweep.specs.Steps.{On}
 use Rattle.multiway_sweep.specs.declared.Range.{Range as Span}
 use Rattle.multiway_sweep.specs.declared.Sizes.{Sizes}
 use Rattle.multiway_sweep.specs.declared.Step.{Step}
 use Rattle.multiway_sweep.specs.declared.Step.the-variants.{Start, End, Done}
-use Rattle.select_pass.specs.Stretches.{StretchesTo, StartsAfter}
+use Rattle.select_pass.specs.Stretches.{StretchesTo, starts-after}
 use Rattle.select_pass.specs.declared.StretchStart.{StretchStart}
 use Rattle.select_pass.specs.declared.StretchStart.the-variants.{At, Nowhere}
 use Rattle.select_pass.specs.declared.StretchBefore.the-variants.{Of, Nothing}
@@ -41,8 +43,8 @@ module _ (e : Step) {from : StretchStart} where
 
 -- so many lists are active after the event
 module _ (e : Step) (n greatest : ℕ) where
-  pub after-start : {y : Span} {list : ℕ} {v : ℤ} {z : Sizes} → e ≡ Start y list v z → StartsAfter e n greatest (At (y .start))
-  after-start k = rw k (omega arith)
+  pub after-start : {y : Span} {list : ℕ} {v : ℤ} {z : Sizes} → e ≡ Start y list v z → At (y .start) ≡ starts-after e n greatest
+  after-start k = rw k refl
 
   module _ {at list : ℕ} {z : Sizes} (k : e ≡ End at list z) where
     pub not-greatest : (ltb 0 n && ltb at greatest) ≡ true → at < greatest
@@ -52,15 +54,29 @@ module _ (e : Step) (n greatest : ℕ) where
         go true q = ltb-true at greatest q
         go false q = absurd (true≢false (sym q))
 
-    pub after-end : StartsAfter e n greatest (At (at + 1))
-    after-end = rw k refl
+    pub after-end : (ltb 0 n && ltb at greatest) ≡ true → At (at + 1) ≡ starts-after e n greatest
+    after-end q = rw (k, q) refl
 
-    pub after-last : (ltb 0 n && ltb at greatest) ≡ false → StartsAfter e n greatest Nowhere
-    after-last q = rw k (go (ltb 0 n) refl q)
-      where
-        go : (b : Bool) → ltb 0 n ≡ b → (b && ltb at greatest) ≡ false → (n ≡ 0) ⊎ (greatest < at + 1)
-        go true p q = inr (omega (arith, ltb-false at greatest q))
-        go false p q = inl (omega (arith, ltb-false 0 n p))
+    pub after-last : (ltb 0 n && ltb at greatest) ≡ false → Nowhere ≡ starts-after e n greatest
+    after-last q = rw (k, q) refl
 
-  pub after-nothing : e ≡ Done → StartsAfter e n greatest Nowhere
-  after-nothing k = inr (rw k tt)
+  pub after-nothing : e ≡ Done → Nowhere ≡ starts-after e n greatest
+  after-nothing k = rw k refl
+
+-- the next stretch starts at the first point that the event bears on, unless no list is active then or that is past the greatest
+abbrev pub Bears : Step → ℕ → ℕ → StretchStart → Type 0
+Bears e n greatest (At s) = On (λ v. s ≡ edge v) ⊥ e
+Bears e n greatest Nowhere = (n ≡ 0) ⊎ On (λ v. greatest < edge v) (Unit {0}) e
+
+pub bears : (e : Step) (n greatest : ℕ) {r : StretchStart} → r ≡ starts-after e n greatest → Bears e n greatest r
+bears e n greatest q = rw q (go e)
+  where
+    ended : (at list : ℕ) (z : Sizes) (b t : Bool) → ltb 0 n ≡ b → ltb at greatest ≡ t → Bears (End at list z) n greatest (cond (b && t) (At (at + 1)) Nowhere)
+    ended at list z true true p q = refl
+    ended at list z true false p q = inr (omega (arith, ltb-false at greatest q))
+    ended at list z false t p q = inl (omega (arith, ltb-false 0 n p))
+
+    go : (e : Step) → Bears e n greatest (starts-after e n greatest)
+    go (Start y list v z) = omega arith
+    go (End at list z) = ended at list z (ltb 0 n) (ltb at greatest) refl refl
+    go Done = inr tt

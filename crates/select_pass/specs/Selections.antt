@@ -21,7 +21,7 @@ use Rattle.multiway_sweep.specs.declared.Step.{Step}
 use Rattle.multiway_sweep.specs.declared.Step.the-variants.{Start, End, Done}
 use Rattle.multiway_pass.specs.Pieces.{ruling-of}
 use Rattle.multiway_pass.specs.declared.Ruling.{Ruling}
-use Rattle.select_pass.specs.Stretches.{StartsAfter}
+use Rattle.select_pass.specs.Stretches.{starts-after}
 use Rattle.select_pass.specs.declared.StretchStart.{StretchStart}
 use Rattle.select_pass.specs.declared.StretchBefore.{StretchBefore}
 use Rattle.select_pass.specs.declared.StretchBefore.the-variants.{Of, Nothing}
@@ -94,4 +94,4 @@ taken Done act = act
 
 -- the next stretch starts at r, by how many lists are active then
 abbrev pub Takes : Step → ℕ → (Held → Type 0) → (Held → Type 0) → StretchStart → Type 0
-Takes e greatest P Q r = (act : Held) → P act → Fits e act → let after = taken e act in Q after × StartsAfter e (length (present after)) greatest r
+Takes e greatest P Q r = (act : Held) → P act → Fits e act → let after = taken e act in Q after × (r ≡ starts-after e (length (present after)) greatest)

@@ -7,7 +7,6 @@ use active_lists::activate;
 use active_lists::deactivate;
 use active_lists::highest;
 use active_lists::how_many;
-use active_lists::odd;
 use many_way_rules::Admission;
 use multiway_pass::Pending;
 use multiway_pass::Piece;
@@ -15,7 +14,6 @@ use multiway_pass::Ruling;
 use multiway_pass::admits;
 use multiway_sweep::Range;
 use multiway_sweep::Step;
-ghost use Prim.Native.Nat.{_≤_};
 ghost use Rattle.multiway_pass.specs.Pieces.{waiting};
 ghost use Rattle.select_pass.specs.Stretches.{StretchesTo};
 ghost use Rattle.select_pass.specs.Selections.{carried, carried-before, carried-after, kept, Keeps, Known, Says, Emits, Due, Takes};
@@ -62,9 +60,6 @@ pub fn stretch_before(event: Step, stretch_start: StretchStart) -> StretchBefore
 fn keeps(admission: Admission, lists: usize, active: &Active) -> bool
     ensures { λ r. ⌜ Keeps admission lists (kept active) r ⌝ }
 {
-    if let Admission::Odd = admission {
-        return odd(active);
-    }
     admits(admission, lists, how_many(active))
 }
 

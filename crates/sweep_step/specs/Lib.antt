@@ -1,1 +1,2 @@
+-- What the contract of a step of a lent sweep says.
 pub mod Lent

@@ -17,9 +17,9 @@ use Rattle.rules.specs.declared.Answer.{Answer}
 use Rattle.rules.specs.declared.Judgement.{Judgement}
 use Rattle.rules.specs.declared.Judgement.the-variants.{Sound, Refused}
 use Rattle.rules.specs.declared.Kind.the-variants.{TwoWay}
-use Rattle.passes.specs.Settled.{settled}
-use Rattle.passes.specs.declared.Settled.{Settled}
-use Rattle.passes.specs.declared.Settled.the-variants.{Answered, Again}
+use Rattle.passes.specs.Conclusion.{concluded}
+use Rattle.passes.specs.declared.Conclusion.{Conclusion}
+use Rattle.passes.specs.declared.Conclusion.the-variants.{Answered, Again}
 use Rattle.passes.proofs.Turns.{Turn, turn-first, turn-answered, turn-again}
 use Rattle.two_way_pass.specs.Pairs.{pairs}
 use Rattle.two_way_pass.specs.Columns.{lays, Roomy, Passed}
@@ -61,7 +61,7 @@ module _ {P : Type 0} {w : Width P} {o : Pairing} {l : Lent P} {space : ℕ} {c 
         let q : d' ≡ done write c = p .laid ∙ ap (done write) (i .turn .kept) in
         rw q (lays-long w (l .values) 0 c write (pairs w o l) (λ e. omega (arith, i .turn .enough e)))
 
-    module _ {s : Settled} (q : s ≡ settled write n space) where
+    module _ {s : Conclusion} (q : s ≡ concluded write n space) where
       pub turns-answered : {a : Answer} → s ≡ Answered a → leaves a d' ≡ pairing w o l c
       turns-answered h = turn-answered done (λ c. refl) (i .turn) (p .count) (p .laid) q h ∙ settles
 

@@ -2,9 +2,9 @@
 
 use form_instant::judge;
 use integer::instant::Point;
-use passes::Settled;
+use passes::Conclusion;
+use passes::conclude;
 use passes::most;
-use passes::settle;
 use rules::Answer;
 use rules::Judgement;
 use rules::Kind;
@@ -62,8 +62,8 @@ pub fn join_lists(
             out_right,
             out_presence,
         );
-        let settled = settle(sure, count, room);
-        if let Settled::Answered(answer) = settled {
+        let conclusion = conclude(sure, count, room);
+        if let Conclusion::Answered(answer) = conclusion {
             return answer;
         }
         sure = true;

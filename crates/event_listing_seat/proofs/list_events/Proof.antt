@@ -14,31 +14,31 @@ list-events-spec =
     -- refused
     (λ c. search needs)
     (λ c. refused seats _ (c .before .before .before .judge .ensures) (c .before .judged .given .1))
-    -- `shortest`, `settled`
+    -- `shortest`, `answer_for`
     (λ c. search needs)
     (λ c κs. search needs)
     (λ c κs. search needs)
     -- `write_events`
     (λ c. search needs)
     (λ c κs.
-    let a : tie.After-settled = search in
+    let a : tie.After-answer-for = search in
     let d : tie.After-enum-told2 = search in
     let r = a .before .before in
-    listable seats _ (r .before .before .judge .ensures) (r .enum-told .given .1) _ (a .before .shortest .ensures) (a .settled .ensures) (d .enum-told2 .given .1))
+    listable seats _ (r .before .before .judge .ensures) (r .enum-told .given .1) _ (a .before .shortest .ensures) (a .answer-for .ensures) (d .enum-told2 .given .1))
     (λ c. search needs)
     (λ c. search needs)
     (λ c. search needs)
     (λ c. search needs)
     -- done
     (λ c.
-    let a : tie.After-settled = search in
+    let a : tie.After-answer-for = search in
     let d : tie.After-enum-told2 = search in
     let o : tie.After-write-events = search in
     let r = a .before .before in
-    written seats _ (r .before .before .judge .ensures) (r .enum-told .given .1) _ (a .before .shortest .ensures) (a .settled .ensures) (d .enum-told2 .given .1) (o .write-events .ensures))
+    written seats _ (r .before .before .judge .ensures) (r .enum-told .given .1) _ (a .before .shortest .ensures) (a .answer-for .ensures) (d .enum-told2 .given .1) (o .write-events .ensures))
     -- no room
     (λ c.
-    let a : tie.After-settled = search in
+    let a : tie.After-answer-for = search in
     let k : tie.At-match2-keys2 = search in
     let r = a .before .before in
-    no-room seats _ (r .before .before .judge .ensures) (r .enum-told .given .1) _ (a .before .shortest .ensures) (a .settled .ensures) (k .match2 .keys2)))
+    no-room seats _ (r .before .before .judge .ensures) (r .enum-told .given .1) _ (a .before .shortest .ensures) (a .answer-for .ensures) (k .match2 .keys2)))

@@ -15,5 +15,5 @@ begin-after-spec =
     (λ c. let a : tie.Start = search in begun-first (a .args .sweep) (a .args .greatest) (c .before .enum-told .given .1) _ (c .begin-from .ensures))
     (λ c. let a : tie.Start = search in omega (arith, c .if1 .taken, a .fits .greatest))
     (λ c κs. search needs)
-    (λ c. let a : tie.Start = search in let k : tie.After-last-end = search in begun-next (a .args .sweep) (a .args .greatest) (k .last-end .given .1) _ (c .begin-from2 .ensures))
+    (λ c. let a : tie.Start = search in let k : tie.After-last-end = search in let t : tie.Then1 = search in begun-next (a .args .sweep) (a .args .greatest) (k .last-end .given .1) (t .if1 .taken) _ (c .begin-from2 .ensures))
     (λ c. let a : tie.Start = search in let k : tie.After-last-end = search in begun-over (a .args .sweep) (a .args .greatest) (k .last-end .given .1) (a .pre) (c .if1 .left)))

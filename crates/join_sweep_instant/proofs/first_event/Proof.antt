@@ -1,5 +1,4 @@
 -- `join_sweep_instant::first_event` meets its contract. Assumes nothing.
-use borrow.Author.Needs.{needs}
 use Rattle.rules.specs.Lists.{instants}
 use Rattle.join_sweep.proofs.Turns.{stepped-ready, formed-sweeps}
 use Rattle.join_sweep_instant.proofs.first_event.Statement.{statement}

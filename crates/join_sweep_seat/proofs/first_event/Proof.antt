@@ -1,5 +1,4 @@
 -- `join_sweep_seat::first_event` meets its contract. Assumes nothing.
-use borrow.Author.Needs.{needs}
 use Rattle.rules.specs.Lists.{seats}
 use Rattle.join_sweep.proofs.Turns.{stepped-ready, formed-sweeps}
 use Rattle.join_sweep_seat.proofs.first_event.Statement.{statement}

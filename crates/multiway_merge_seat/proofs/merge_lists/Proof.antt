@@ -1,4 +1,4 @@
--- `multiway_merge_seat::merge_lists` meets its contract: it refuses, says what it says of no lists, or a pass settles the answer, the second where the first does not. Assumes nothing.
+-- `multiway_merge_seat::merge_lists` meets its contract: it refuses, says what it says of no lists, or a pass concludes, the second where the first does not. Assumes nothing.
 use mathlib.Core.Bool.{cond}
 use native.Mathlib.Omega.{arith}
 use borrow.Author.Needs.{needs}
@@ -16,7 +16,7 @@ Inv-loop operation starts ends values counts out-start₀ out-end₀ out-value�
 abbrev μ-loop : tie.MeasureT-loop
 μ-loop operation starts ends values counts out-start₀ out-end₀ out-value₀ room sure₀ out-start out-end out-value sure = cond sure 0 1
 
--- the places that the answers cite: what is lent is judged, nothing is refused, a pass is made, and it is known what it settles
+-- the places that the answers cite: what is lent is judged, nothing is refused, a pass is made, and it is known what it concludes
 abbrev Judged : Type 0
 Judged = tie.After-judge Inv-loop μ-loop
 
@@ -29,8 +29,8 @@ Loop = tie.At-loop Inv-loop μ-loop
 abbrev Pass : Type 0
 Pass = tie.After-pass Inv-loop μ-loop
 
-abbrev Settled : Type 0
-Settled = tie.After-settle Inv-loop μ-loop
+abbrev Concluded : Type 0
+Concluded = tie.After-conclude Inv-loop μ-loop
 
 abbrev kind : Judged → tie.After-kind-of Inv-loop μ-loop
 kind j = search
@@ -41,7 +41,7 @@ judged e = search
 abbrev turn : Pass → Loop
 turn p = search
 
-abbrev passed : Settled → Pass
+abbrev passed : Concluded → Pass
 passed s = search
 
 pub merge-lists-spec : {M : Type 1} → statement M
@@ -80,16 +80,16 @@ merge-lists-spec =
     (λ c κs. let l : Loop = search in turns-mergeable (l .loop .inv))
     (λ c κs. search needs)
     (λ c. search needs)
-    -- a pass settles the answer
+    -- a pass concludes
     (λ c. let p : Pass = search in turns-long (turn p .loop .inv) (p .pass .ensures) .0)
     (λ c. let p : Pass = search in turns-long (turn p .loop .inv) (p .pass .ensures) .1 .0)
     (λ c. let p : Pass = search in turns-long (turn p .loop .inv) (p .pass .ensures) .1 .1 .0)
-    (λ c. let s : Settled = search in let p = passed s in turns-answered (turn p .loop .inv) (p .pass .ensures) (s .settle .ensures) (c .before .settled .given .1))
+    (λ c. let s : Concluded = search in let p = passed s in turns-answered (turn p .loop .inv) (p .pass .ensures) (s .conclude .ensures) (c .before .conclusion .given .1))
     (λ c. search needs)
     -- it counted, and there is room: the next writes
     (λ c.
-    let s : Settled = search in
+    let s : Concluded = search in
     let p = passed s in
-    let t = turns-again (turn p .loop .inv) (p .pass .ensures) (s .settle .ensures) (c .enum-told2 .given .1) .0 in
+    let t = turns-again (turn p .loop .inv) (p .pass .ensures) (s .conclude .ensures) (c .enum-told2 .given .1) .0 in
     rw t (omega arith))
-    (λ c. let s : Settled = search in let p = passed s in turns-again (turn p .loop .inv) (p .pass .ensures) (s .settle .ensures) (c .enum-told2 .given .1) .1))
+    (λ c. let s : Concluded = search in let p = passed s in turns-again (turn p .loop .inv) (p .pass .ensures) (s .conclude .ensures) (c .enum-told2 .given .1) .1))

@@ -1,5 +1,4 @@
 -- `select_pass::stretch_before` meets its contract. Assumes nothing.
-use native.Mathlib.Omega.{arith}
 use borrow.Author.Needs.{needs}
 use Rattle.select_pass.proofs.Stretches.{from-nowhere, to-start, at-start, to-end, past-end, to-nothing}
 use Rattle.select_pass.proofs.stretch_before.Statement.{statement}

@@ -32,7 +32,9 @@ take-spec =
     let a : tie.Start = search in
     let e : tie.After-event2 = search in
     let d : tie.After-deactivate = search in
-    end-taken (a .args .event) (e .event2 .given .1) k f (d .deactivate .ensures (has act) (k .stands) (end-active (a .args .event) (e .event2 .given .1) k f)) (a .args .greatest))
+    let n : tie.After-how-many = search in
+    let t : tie.Then1 = search in
+    end-taken (a .args .event) (e .event2 .given .1) k f (d .deactivate .ensures (has act) (k .stands) (end-active (a .args .event) (e .event2 .given .1) k f)) (n .how-many .result) (a .args .greatest) (n .how-many .ensures) (t .if1 .taken))
     (λ c. search needs)
     (λ c act k f.
     let a : tie.Start = search in

@@ -5,7 +5,6 @@ use native.Mathlib.Omega.{arith}
 use borrow.Author.Needs.{needs}
 use Rattle.rules.specs.Lists.{Lent, instants}
 use Rattle.rules.specs.Merged.{Merged}
-use Rattle.rules.proofs.Columns.{lists-length}
 use Rattle.multiway_pass.specs.Pieces.{waiting}
 use Rattle.multiway_pass.proofs.Walks.{Going, going-first, going-long, last-puttable, walked}
 use Rattle.multiway_pass.proofs.Merges.{walkable, all-merged}

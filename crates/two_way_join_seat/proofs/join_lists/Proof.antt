@@ -1,4 +1,4 @@
--- `two_way_join_seat::join_lists` meets its contract: it refuses, or a pass settles the answer, the second where the first does not. Assumes nothing.
+-- `two_way_join_seat::join_lists` meets its contract: it refuses, or a pass concludes, the second where the first does not. Assumes nothing.
 use mathlib.Core.Bool.{cond}
 use native.Mathlib.Omega.{arith}
 use borrow.Author.Needs.{needs}
@@ -17,7 +17,7 @@ abbrev μ-loop : tie.MeasureT-loop
 μ-loop asked starts ends values counts out-start₀ out-end₀ out-left₀ out-right₀ out-presence₀ room sure₀ out-start out-end out-left out-right out-presence sure =
     cond sure 0 1
 
--- where the lists are judged, where nothing is refused, where the loop is, where a pass is done, and where it is known what it settles
+-- where the lists are judged, where nothing is refused, where the loop is, where a pass is done, and where it is known what it concludes
 abbrev Start : Type 0
 Start = tie.Start Inv-loop μ-loop
 
@@ -33,8 +33,8 @@ Loop = tie.At-loop Inv-loop μ-loop
 abbrev Pass : Type 0
 Pass = tie.After-pass Inv-loop μ-loop
 
-abbrev Settled : Type 0
-Settled = tie.After-settle Inv-loop μ-loop
+abbrev Concluded : Type 0
+Concluded = tie.After-conclude Inv-loop μ-loop
 
 pub join-lists-spec : {M : Type 1} → statement M
 join-lists-spec =
@@ -56,7 +56,7 @@ join-lists-spec =
     (λ c. let a : Start = search in let j : Judged = search in let s : Sound = search in turns-first (j .judge .ensures) (s .enum-told .given .1) (c .most .ensures) (a .args .asked) (c .before .shortest .ensures))
     -- `pass`: the lists passed the form checker, and there is room where it writes
     (λ c κs. let l : Loop = search in (l .loop .inv .formed, turns-room (l .loop .inv)))
-    -- `settle` asks nothing
+    -- `conclude` asks nothing
     (λ c κs. search needs)
     (λ c. search needs)
     -- an answer: the columns are as long as they were, and hold what the answer says
@@ -65,14 +65,14 @@ join-lists-spec =
     (λ c. let l : Loop = search in let p : Pass = search in turns-long (l .loop .inv) (p .pass .ensures) .1 .1 .0)
     (λ c. let l : Loop = search in let p : Pass = search in turns-long (l .loop .inv) (p .pass .ensures) .1 .1 .1 .0)
     (λ c. let l : Loop = search in let p : Pass = search in turns-long (l .loop .inv) (p .pass .ensures) .1 .1 .1 .1 .0)
-    (λ c. let l : Loop = search in let p : Pass = search in let s : Settled = search in turns-answered (l .loop .inv) (p .pass .ensures) (s .settle .ensures) (c .before .settled .given .1))
+    (λ c. let l : Loop = search in let p : Pass = search in let s : Concluded = search in turns-answered (l .loop .inv) (p .pass .ensures) (s .conclude .ensures) (c .before .conclusion .given .1))
     (λ c. search needs)
     -- a second pass is the last
     (λ c.
     let l : Loop = search in
     let p : Pass = search in
-    let s : Settled = search in
-    let t = turns-again (l .loop .inv) (p .pass .ensures) (s .settle .ensures) (c .enum-told2 .given .1) .0 in
+    let s : Concluded = search in
+    let t = turns-again (l .loop .inv) (p .pass .ensures) (s .conclude .ensures) (c .enum-told2 .given .1) .0 in
     rw t (omega arith))
     -- it writes, and there is room
-    (λ c. let l : Loop = search in let p : Pass = search in let s : Settled = search in turns-again (l .loop .inv) (p .pass .ensures) (s .settle .ensures) (c .enum-told2 .given .1) .1))
+    (λ c. let l : Loop = search in let p : Pass = search in let s : Concluded = search in turns-again (l .loop .inv) (p .pass .ensures) (s .conclude .ensures) (c .enum-told2 .given .1) .1))

@@ -1,13 +1,13 @@
--- `settled` meets its contract. Assumes nothing.
+-- `answer_for` meets its contract. Assumes nothing.
 use Prim.Native.Nat.{_*_}
 use native.Mathlib.Omega.{arith}
 use borrow.Author.Needs.{needs}
 use borrow.Author.Tests.{le-leb, lt-leb}
-use Rattle.event_listing.proofs.settled.Statement.{statement}
-use Rattle.event_listing.proofs.settled.Tie as tie
+use Rattle.event_listing.proofs.answer_for.Statement.{statement}
+use Rattle.event_listing.proofs.answer_for.Tie as tie
 
-pub settled-spec : {M : Type 1} → statement M
-settled-spec =
+pub answer-for-spec : {M : Type 1} → statement M
+answer-for-spec =
     tie.close
     (tie.spec
     (λ c. search needs)

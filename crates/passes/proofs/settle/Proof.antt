@@ -1,7 +1,0 @@
--- `passes::settle` meets its contract. Assumes nothing.
-use borrow.Author.Tests.{lt-ltb, le-ltb}
-use Rattle.passes.proofs.settle.Statement.{statement}
-use Rattle.passes.proofs.settle.Tie as tie
-
-pub settle-spec : {M : Type 1} → statement M
-settle-spec = tie.close (tie.spec (λ c. rw (c .if1 .taken)) (λ c. rw (c .before .if1 .left, lt-ltb _ _ (c .if2 .taken))) (λ c. rw (c .before .if1 .left, le-ltb _ _ (c .if2 .left))))
