@@ -14,7 +14,7 @@ use Rattle.answer_text.proofs.Numbers.{Digits, decimal-digits, decimal-
 use Rattle.answer_text.proofs.Lines.{Dark, Line, Lines, text-tells, lines-of, map-tells, table-tells}
 
 -- `join 5 1 2 3`, `1 4 100`, `5 5 120`, `6 9 20`
-example :
+pub example :
     answer
     (merged 5 1 2
     (record { start = pos 1; end = pos 4; value = pos 100 } ∷ record { start = pos 5; end = pos 5; value = pos 120 } ∷ record { start = pos 6; end = pos 9; value = pos 20 } ∷ []))
@@ -26,7 +26,7 @@ unfolding places decimal signed
 example = refl
 
 -- the least i64
-least : signed (negsuc 9223372036854775807) ≡ 45 ∷ 57 ∷ 50 ∷ 50 ∷ 51 ∷ 51 ∷ 55 ∷ 50 ∷ 48 ∷ 51 ∷ 54 ∷ 56 ∷ 53 ∷ 52 ∷ 55 ∷ 55 ∷ 53 ∷ 56 ∷ 48 ∷ 56 ∷ []
+pub least : signed (negsuc 9223372036854775807) ≡ 45 ∷ 57 ∷ 50 ∷ 50 ∷ 51 ∷ 51 ∷ 55 ∷ 50 ∷ 48 ∷ 51 ∷ 54 ∷ 56 ∷ 53 ∷ 52 ∷ 55 ∷ 55 ∷ 53 ∷ 56 ∷ 48 ∷ 56 ∷ []
 unfolding places decimal signed
 least = refl
 

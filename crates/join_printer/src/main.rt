@@ -12,6 +12,7 @@ fn main() {
     let mut file: [u8; MOST] = [0; MOST];
     let mut text: [u8; ROOM] = [0; ROOM];
     let length = io::read_full(libc::STDIN_FILENO, &mut file);
+    // Short of that many bytes, one read more tells the end, where it gives none, from an error.
     let mut more: [u8; 1] = [0; 1];
     if length < MOST && libc::read(libc::STDIN_FILENO, &mut more) < 0 {
         os::fail(b"standard input");

@@ -2,13 +2,12 @@
 use Prim.Native.Nat.{ℕ, _≤_, _<_}
 use mathlib.Core.Path.{_≡_, refl, sym, ap, _∙_}
 use mathlib.Core.Logic.{_≢_}
-use mathlib.Core.Bool.{Bool, cond}
+use mathlib.Core.Bool.{cond}
 use native.Mathlib.Omega.{arith}
-use lib.Dec.{eqb}
 use lib.IntN.{ℤ, pos}
 use lib.ListN.{length, getD, length-replicate}
 use borrow.Author.Tests.{eq-eqb, ne-eqb}
-use Rattle.rules.specs.Lists.{Width, Lent, instants, lists, tracks}
+use Rattle.rules.specs.Lists.{Lent, instants, lists, tracks}
 use Rattle.rules.specs.Answer.{Outcome, code-of, number-of, judge, settle, leaves}
 use Rattle.rules.specs.Merged as merged-columns
 use Rattle.rules.specs.Paired as paired-columns

@@ -18,7 +18,7 @@ ghost use Rattle.printed.specs.Printed.{head, paired-answer, merged-answer, per
 
 // Joins two lists as asked, and prints the pieces or the refusal.
 fn join_pairs(
-    asked: Pairing,
+    how: Pairing,
     operation: u8,
     combiner: u8,
     starts: &[i64],
@@ -28,7 +28,7 @@ fn join_pairs(
     text: &mut [u8],
 ) -> usize
     ensures { λ r. ⌜ leaves r (now (text .exit))
-        ≡ print (answer (paired-answer (head operation combiner) asked (given starts ends values counts))) (now (text .entry)) ⌝ }
+        ≡ print (answer (paired-answer (head operation combiner) how (given starts ends values counts))) (now (text .entry)) ⌝ }
 {
     let mut out_start: [i64; 4095] = [0; 4095];
     let mut out_end: [i64; 4095] = [0; 4095];
@@ -36,7 +36,7 @@ fn join_pairs(
     let mut out_right: [i32; 4095] = [0; 4095];
     let mut out_presence: [u8; 4095] = [0; 4095];
     let answer = join_lists(
-        asked,
+        how,
         starts,
         ends,
         values,
@@ -67,7 +67,7 @@ fn join_pairs(
 
 // Merges lists as asked, and prints the pieces or the refusal.
 fn join_many(
-    asked: Operation,
+    how: Operation,
     operation: u8,
     combiner: u8,
     starts: &[i64],
@@ -77,13 +77,13 @@ fn join_many(
     text: &mut [u8],
 ) -> usize
     ensures { λ r. ⌜ leaves r (now (text .exit))
-        ≡ print (answer (merged-answer (head operation combiner) asked (given starts ends values counts))) (now (text .entry)) ⌝ }
+        ≡ print (answer (merged-answer (head operation combiner) how (given starts ends values counts))) (now (text .entry)) ⌝ }
 {
     let mut out_start: [i64; 4095] = [0; 4095];
     let mut out_end: [i64; 4095] = [0; 4095];
     let mut out_value: [i64; 4095] = [0; 4095];
     let answer = merge_lists(
-        asked,
+        how,
         starts,
         ends,
         values,
@@ -123,43 +123,16 @@ pub fn perform(
         ≡ print (answer (performed (head operation combiner) task (given starts ends values counts))) (now (text .entry)) ⌝ }
 {
     match task {
-        Task::Pair(asked) => {
-            join_pairs(
-                asked,
-                operation,
-                combiner,
-                starts,
-                ends,
-                values,
-                counts,
-                text,
-            )
+        Task::Pair(how) => {
+            join_pairs(how, operation, combiner, starts, ends, values, counts, text)
         }
         Task::Join(admission) => {
-            let asked = Operation::Join(admission, combiner);
-            join_many(
-                asked,
-                operation,
-                combiner,
-                starts,
-                ends,
-                values,
-                counts,
-                text,
-            )
+            let how = Operation::Join(admission, combiner);
+            join_many(how, operation, combiner, starts, ends, values, counts, text)
         }
         Task::Select(pick, admission) => {
-            let asked = Operation::Select(pick, admission);
-            join_many(
-                asked,
-                operation,
-                combiner,
-                starts,
-                ends,
-                values,
-                counts,
-                text,
-            )
+            let how = Operation::Select(pick, admission);
+            join_many(how, operation, combiner, starts, ends, values, counts, text)
         }
     }
 }

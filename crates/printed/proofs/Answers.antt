@@ -1,15 +1,14 @@
 -- An operation over lists that nothing is refused of: its answer has a row for each piece of its rule. Assumes nothing.
-use Prim.Native.Nat.{ℕ, _+_, _*_, _-_, _≤_, _<_}
-use mathlib.Core.Path.{_≡_, refl, sym, ap, subst, _∙_}
-use mathlib.Core.Bool.{Bool, true, false, cond}
+use Prim.Native.Nat.{ℕ, _+_, _≤_, _<_}
+use mathlib.Core.Path.{_≡_, refl, ap, _∙_}
 use mathlib.Core.Option.{Option, none, some}
 use mathlib.Core.List.{List, [], _∷_, map}
 use native.Mathlib.Omega.{arith}
 use lib.IntN.{ℤ, pos}
-use lib.ListN.{length, getD, replicate, length-replicate}
-use Rattle.rules.specs.Piece.{Piece, Range, there, AllWellFormed}
+use lib.ListN.{length, getD, length-replicate}
+use Rattle.rules.specs.Piece.{Piece, Range, AllWellFormed}
 use Rattle.rules.specs.Lists.{Lent, instants, keys, ranges, cut, lists, tracks, total}
-use Rattle.rules.specs.Answer.{Outcome, judge, settle, leaves, laid, front}
+use Rattle.rules.specs.Answer.{Outcome, judge, leaves, front}
 use Rattle.rules.specs.Merged as merged-columns
 use Rattle.rules.specs.Paired as paired-columns
 use Rattle.rules.specs.Merged.{Merged}
@@ -21,7 +20,6 @@ use Rattle.rules.specs.declared.Answer.the-variants.{Done}
 use Rattle.rules.specs.declared.Judgement.the-variants.{Sound}
 use Rattle.rules.specs.declared.Pairing.{Pairing}
 use Rattle.rules.specs.declared.Kind.the-variants.{TwoWay}
-use Rattle.rules.specs.Proving.Below.{size}
 use Rattle.rules.proofs.Refusals.{fits, lists-formed}
 use Rattle.rules.proofs.Room.{paired-room}
 use Rattle.rules.proofs.Operations.{front-has}
@@ -32,7 +30,7 @@ use Rattle.many_way_rules.specs.declared.Operation.{Operation}
 use Rattle.many_way_rules.proofs.Room.{merged-enough}
 use Rattle.tariff_file.specs.File.{Head}
 use Rattle.answer_text.specs.Answers as text
-use Rattle.answer_text.specs.Answers.{Answer, Row, Pair, rows, pairs, row-at, pair-at, present, left-there, right-there}
+use Rattle.answer_text.specs.Answers.{Row, Pair, rows, pairs, row-at, pair-at, present, left-there, right-there}
 use Rattle.printed.specs.Printed.{merge-room, pair-room, told, paired-answer, merged-answer}
 use Rattle.printed.proofs.Firsts.{firsts-map}
 

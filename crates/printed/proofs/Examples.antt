@@ -1,7 +1,6 @@
 -- The printed text of the file of 58 bytes is computed. Assumes nothing.
 use mathlib.Core.Path.{_≡_, refl}
-use mathlib.Core.List.{List, [], _∷_}
-use Prim.Native.Nat.{ℕ}
+use mathlib.Core.List.{[], _∷_}
 use Rattle.rules.specs.Lists.{key64, point64}
 use Rattle.rules.specs.Answer.{judge}
 use Rattle.rules.specs.Runs.{cuts, line, pieces, runs}

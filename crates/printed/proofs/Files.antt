@@ -2,20 +2,20 @@
 use Prim.Native.Nat.{ℕ, _<_}
 use mathlib.Core.Path.{_≡_, refl, sym, ap, subst, _∙_}
 use mathlib.Core.Logic.{_↔_, _≢_, _⊎_, inl, inr}
+use mathlib.Core.Bool.{true}
 use mathlib.Core.Option.{Option, none, some}
 use mathlib.Core.List.{List, [], _∷_, map}
 use native.Mathlib.Omega.{arith}
-use lib.IntN.{ℤ, pos}
+use lib.IntN.{ℤ}
 use lib.ListN.{length, length-map}
+use borrow.Author.Tests.{eqb-true}
 use Rattle.rules.specs.Piece.{Range, column, AllWellFormed}
-use Rattle.rules.specs.Lists.{Lent, instants, lists, tracks}
-use Rattle.rules.specs.Answer.{judge, code-of}
+use Rattle.rules.specs.Lists.{instants, lists, tracks}
+use Rattle.rules.specs.Answer.{code-of}
 use Rattle.rules.specs.declared.Answer.{Answer}
 use Rattle.rules.specs.declared.Answer.the-variants.{Backward, Overlap}
 use Rattle.rules.specs.Merged.{Merged}
 use Rattle.rules.specs.TwoWay.{paired}
-use Rattle.rules.specs.Refusals.{Formed}
-use Rattle.rules.specs.declared.Judgement.the-variants.{Sound as SoundLists}
 use Rattle.rules.specs.declared.Pairing.{Pairing}
 use Rattle.rules.proofs.Refusals.{lists-formed}
 use Rattle.many_way_rules.specs.Sheet.{Tariff, lend}
@@ -28,7 +28,7 @@ use Rattle.integer.proofs.Laws.{faithful-instants}
 use Rattle.multiway.proofs.Calls.{rows, rows-same}
 use Rattle.tariff_file.specs.Layout.{Bytes}
 use Rattle.tariff_file.specs.File as file
-use Rattle.tariff_file.specs.File.{Head, Reading, ill-formed, accepted, task-of, read, Sound}
+use Rattle.tariff_file.specs.File.{lists-right, combiner-right, Head, Reading, ill-formed, accepted, read}
 use Rattle.tariff_file.specs.declared.Refusal.{Refusal}
 use Rattle.tariff_file.specs.declared.Refusal.the-variants.{TooLong, WrongMark, CutShort, LeftOver, UnknownOperation, TooManyLists, NotTwoLists, UnknownCombiner, TooManyRanges}
 use Rattle.tariff_file.proofs.Read.{five-or-six}
@@ -38,8 +38,8 @@ use Rattle.tariff_file.proofs.Columns.{kind-of}
 use Rattle.answer_text.specs.Answers as text
 use Rattle.answer_text.specs.Answers.{Row, row, pair, answer}
 use Rattle.answer_text.specs.Lines as lines
-use Rattle.answer_text.proofs.Answers.{rows-tell, pairs-tell}
-use Rattle.printed.specs.Printed.{answered, asked, performed, merged-answer, paired-answer, printed}
+use Rattle.answer_text.proofs.Answers.{rows-tell, pairs-tell, paired-tells}
+use Rattle.printed.specs.Printed.{answered, asked, performed, merged-answer, printed}
 use Rattle.printed.proofs.Accepted.{Accepted, sound, judged, formed-lists}
 use Rattle.printed.proofs.Answers.{row-of, pair-of, place-value, merged-answered, paired-answered}
 
@@ -71,14 +71,24 @@ module _ {b : List ℕ} {h : Head} {ls : List (Tariff ℤ)} (a : Accepted b h ls
         go (Join a) e = absurd (let no : _≡_ {A = ℕ} 0 1 = cc in omega arith)
         go (Select q a) e = absurd (let no : _≡_ {A = ℕ} 0 1 = cc in omega arith)
 
-    pub two-way-printed : printed b ≡ answer (text.paired (h .operation) (h .combiner) (length ls) (map (pair-of (place-value h (lend ls))) (paired p (instants .points) (tracks instants (lend ls)))))
+    -- its pieces, with the values of their sides
+    abbrev pub valued : List text.Pair
+    valued = map (pair-of (place-value h (lend ls))) (paired p (instants .points) (tracks instants (lend ls)))
+
+    pub two-way-printed : printed b ≡ answer (text.paired (h .operation) (h .combiner) (length ls) valued)
     unfolding printed
     two-way-printed =
         ap answer
         (performs
         ∙ ap (λ t. performed h t (lend ls)) as-pair
         ∙ paired-answered h (lend ls) p (rw as-pair at (judged a)) (rw as-pair at (formed-lists a))
-        ∙ ap (λ (n : ℕ). text.paired (h .operation) (h .combiner) n (map (pair-of (place-value h (lend ls))) (paired p (instants .points) (tracks instants (lend ls))))) long)
+        ∙ ap (λ (n : ℕ). text.paired (h .operation) (h .combiner) n valued) long)
+
+    two-lists : length ls ≡ 2
+    two-lists = eqb-true (length ls) 2 (subst (λ t. lists-right t (length ls) ≡ true) as-pair (sound a .right-lists))
+
+    no-combiner : h .combiner ≡ 0
+    no-combiner = eqb-true (h .combiner) 0 (subst (λ t. combiner-right t (h .combiner) ≡ true) as-pair (sound a .right-combiner))
 
   -- and one of a many-way operation
   module _ (o : Operation) (m : many-way (sound a .task) (h .combiner) ≡ some o) where
@@ -141,12 +151,18 @@ module _ {b b' : List ℕ} {h h' : Head} {ls ls' : List (Tariff ℤ)} (a : Accep
         let same = merged-same (instants .points) o (lists instants (lend ls)) (formed-many a o m) o' (lists instants (lend ls')) (formed-many a' o' m') in
         (λ e. same .0 (told-rows e), λ e. ap (λ (xs : List Range). lines.text (map row (map row-of xs))) (same .1 e))
 
-  -- two of two-way operations, exactly when they have the same pieces
-  pub same-pairs : (p p' : Pairing) → two-way (sound a .task) ≡ some p → two-way (sound a' .task) ≡ some p' →
-      let ps = map (pair-of (place-value h (lend ls))) (paired p (instants .points) (tracks instants (lend ls))) in
-      let qs = map (pair-of (place-value h' (lend ls'))) (paired p' (instants .points) (tracks instants (lend ls'))) in
-      (lines.text (map pair ps) ≡ lines.text (map pair qs)) ↔ (ps ≡ qs)
-  same-pairs p p' m m' = pairs-tell _ _
+  -- two of two-way operations, exactly when they have the same pieces; of one operation, so do their whole texts
+  module _ (p p' : Pairing) (m : two-way (sound a .task) ≡ some p) (m' : two-way (sound a' .task) ≡ some p') where
+    pub same-pairs : (lines.text (map pair (valued a p m)) ≡ lines.text (map pair (valued a' p' m'))) ↔ (valued a p m ≡ valued a' p' m')
+    same-pairs = pairs-tell (valued a p m) (valued a' p' m')
+
+    pub same-printed : h .operation ≡ h' .operation → (printed b ≡ printed b') ↔ (valued a p m ≡ valued a' p' m')
+    same-printed o =
+        let combiners = no-combiner a p m ∙ sym (no-combiner a' p' m') in
+        let counts = two-lists a p m ∙ sym (two-lists a' p' m') in (
+          λ e. let t = paired-tells _ _ _ _ _ _ (valued a p m) (valued a' p' m') (sym (two-way-printed a p m) ∙ e ∙ two-way-printed a' p' m') in cc,
+          λ e. two-way-printed a p m ∙ (λ i. answer (text.paired (o i) (combiners i) (counts i) (e i))) ∙ sym (two-way-printed a' p' m'),
+        )
 
 -- 4 and 8 are no codes of a file
 codes : (r : Refusal) → (file.code-of r ≢ 4) × (file.code-of r ≢ 8)

@@ -1,5 +1,5 @@
--- The first n of what stands in places: a front of a list, and what is laid at the front of a column. Assumes nothing.
-use Prim.Native.Nat.{ℕ, zero, suc, _+_, _≤_, _<_}
+-- The first n of what stands in places are the front of a list. Assumes nothing.
+use Prim.Native.Nat.{ℕ, zero, suc, _≤_, _<_}
 use mathlib.Core.Path.{_≡_, refl, sym, ap, _∙_}
 use mathlib.Core.List.{List, [], _∷_, _++_, map}
 use native.Mathlib.Omega.{arith}
@@ -11,10 +11,6 @@ map-snoc : {A B : Type 0} (f : A → B) (xs : List A) (y : A) → map f (xs ++ (
 map-snoc f [] y = refl
 map-snoc {B = B} f (x ∷ xs) y = ap (λ (l : List B). f x ∷ l) (map-snoc f xs y)
 
-pub map-firsts : {A B : Type 0} (g : A → B) (f : ℕ → A) (n : ℕ) → map g (firsts f n) ≡ firsts (λ i. g (f i)) n
-map-firsts g f zero = refl
-map-firsts {B = B} g f (suc n) = map-snoc g (firsts f n) (f n) ∙ ap (λ (l : List B). l ++ (g (f n) ∷ [])) (map-firsts g f n)
-
 -- at each place what g makes of the list's there
 firsts-front : {A B : Type 0} (g : A → B) (f : ℕ → B) (l : List A) (d : A) (n : ℕ) → n ≤ length l → ((i : ℕ) → i < n → f i ≡ g (getD l i d)) → firsts f n ≡ map g (take n l)
 firsts-front g f l d zero h e = refl
@@ -25,10 +21,3 @@ firsts-front {B = B} g f l d (suc n) h e =
 
 pub firsts-map : {A B : Type 0} (g : A → B) (f : ℕ → B) (l : List A) (d : A) → ((i : ℕ) → i < length l → f i ≡ g (getD l i d)) → firsts f (length l) ≡ map g l
 firsts-map g f l d e = firsts-front g f l d (length l) (omega arith) e ∙ ap (map g) (take-length l)
-
-map-same : {A : Type 0} (l : List A) → map (λ x. x) l ≡ l
-map-same [] = refl
-map-same {A} (x ∷ l) = ap (λ (m : List A). x ∷ m) (map-same l)
-
-pub firsts-take : {A : Type 0} (l : List A) (d : A) (n : ℕ) → n ≤ length l → firsts (λ i. getD l i d) n ≡ take n l
-firsts-take l d n h = firsts-front (λ x. x) (λ i. getD l i d) l d n h (λ i b. refl) ∙ map-same (take n l)

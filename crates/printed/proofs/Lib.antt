@@ -1,4 +1,4 @@
--- The laws of the printed text: `Examples` is computed, `Files` is for a reader.
+-- The laws of the printed text: `Files` is for a reader, `Records` for the code; `Accepted`, `Firsts` and `Answers` lead there; `Examples` is computed.
 pub mod Accepted
 pub mod Firsts
 pub mod Answers

@@ -7,7 +7,7 @@ use mathlib.Core.List.{List}
 use lib.IntN.{ℤ, pos}
 use lib.ListN.{length, getD}
 use Rattle.rules.specs.Lists.{Lent, instants, lists, tracks}
-use Rattle.rules.specs.Answer.{Outcome, code-of, number-of, judge, judge-lists, settle, leaves}
+use Rattle.rules.specs.Answer.{Outcome, code-of, number-of, judge, judge-lists, settle}
 use Rattle.rules.specs.Merged as merged-columns
 use Rattle.rules.specs.Paired as paired-columns
 use Rattle.rules.specs.Merged.{Merged}
@@ -28,7 +28,7 @@ use Rattle.many_way_rules.specs.declared.Operation.{Operation}
 use Rattle.many_way_rules.specs.declared.Operation.the-variants.{Join as Joining, Select as Selecting}
 use Rattle.tariff_file.specs.Layout.{Bytes}
 use Rattle.tariff_file.specs.File as file
-use Rattle.tariff_file.specs.File.{Head, Reading, ill-formed, accepted, formed, checked, records-of, read, Sound}
+use Rattle.tariff_file.specs.File.{Head, Reading, accepted, formed, checked, records-of, read, Sound}
 use Rattle.tariff_file.specs.declared.Refusal.{Refusal}
 use Rattle.tariff_file.specs.declared.Task.{Task}
 use Rattle.tariff_file.specs.declared.Task.the-variants.{Pair, Join, Select}

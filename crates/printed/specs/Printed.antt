@@ -7,13 +7,13 @@ use lib.Dec.{eqb}
 use lib.IntN.{ℤ, pos}
 use lib.ListN.{length, replicate}
 use Rattle.rules.specs.Lists.{Lent, instants}
-use Rattle.rules.specs.Answer.{Outcome, code-of, number-of}
+use Rattle.rules.specs.Answer.{code-of, number-of}
 use Rattle.rules.specs.Merged.{Merged}
 use Rattle.rules.specs.Paired.{Paired}
 use Rattle.rules.specs.Outcomes.{pairing}
 use Rattle.rules.specs.declared.Answer.{Answer as Answered}
 use Rattle.rules.specs.declared.Pairing.{Pairing}
-use Rattle.many_way_rules.specs.Sheet.{Tariff, lend}
+use Rattle.many_way_rules.specs.Sheet.{lend}
 use Rattle.many_way_rules.specs.Outcomes.{merging}
 use Rattle.many_way_rules.specs.declared.Operation.{Operation}
 use Rattle.many_way_rules.specs.declared.Operation.the-variants.{Join as Joining, Select as Selecting}

@@ -5,7 +5,7 @@ use join_file::join_file;
 ghost use Prim.Native.Nat.{_≤_};
 ghost use lib.ListN.{length as ListN·length};
 
-// Room for the list, and for a text of it.
+// Room for the list, a byte more than the longest, so that a longer one is told; and for a text of it.
 const LIST_ROOM: usize = 262144;
 
 const TEXT_ROOM: usize = 65536;
@@ -112,7 +112,7 @@ fn report(tally: Tally) {
     if tally.differ > 0 {
         say(b"the first that differs is file ");
         say_number(tally.first);
-        say(b"\n");
+        say(b", counted from 1\n");
     }
     if !tally.whole {
         say(b"the list breaks off\n");
@@ -128,5 +128,9 @@ fn main() {
     let mut list: [u8; LIST_ROOM] = [0; LIST_ROOM];
     let length = io::read_full(fd, &mut list);
     libc::close(fd);
+    if length == LIST_ROOM {
+        say(b"the list has more bytes than there is room for\n");
+        return;
+    }
     report(replay(&list[..length]));
 }

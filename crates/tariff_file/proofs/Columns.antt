@@ -1,10 +1,10 @@
 -- Columns say as much as the lists that they lend, and an accepted file's columns are refused for nothing but 5 and 6. Assumes nothing.
-use Prim.Native.Nat.{ℕ, zero, suc, _+_, _≤_, _<_}
+use Prim.Native.Nat.{ℕ}
 use mathlib.Core.Path.{_≡_, refl, sym, ap, _∙_}
-use mathlib.Core.Bool.{Bool, true, false, cond, not, _&&_}
-use mathlib.Core.List.{List, [], _∷_, _++_, map}
+use mathlib.Core.Bool.{true, false, not, _&&_}
+use mathlib.Core.List.{List, [], _∷_, map}
 use native.Mathlib.Omega.{arith}
-use lib.Dec.{ltb, eqb}
+use lib.Dec.{eqb}
 use lib.IntN.{ℤ}
 use lib.ListN.{length, take, drop, length-map, length-append}
 use lib.Seq.{take-at, drop-at}
@@ -14,8 +14,7 @@ use Rattle.rules.specs.Answer.{refuse, two-way, unknown-combiner, agree, judge,
 use Rattle.rules.specs.declared.Kind.{Kind}
 use Rattle.rules.specs.declared.Kind.the-variants.{TwoWay, Join as JoinKind, Selection}
 use Rattle.many_way_rules.specs.Combiners.{known}
-use Rattle.many_way_rules.specs.Sheet.{Typed, Tariff, flat, lend}
-use Rattle.rules.specs.declared.Judgement.{Judgement}
+use Rattle.many_way_rules.specs.Sheet.{Tariff, flat, lend}
 use Rattle.rules.specs.declared.Answer.the-variants.{TooManyLists, NotTwoLists, TooManyRanges, ColumnsDiffer, UnknownCombiner}
 use Rattle.tariff_file.specs.File.{lists-right, combiner-right, Head, Sound}
 use Rattle.tariff_file.specs.declared.Task.{Task}

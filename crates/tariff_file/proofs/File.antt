@@ -247,14 +247,14 @@ module _ (h : Head) (ls : List (Tariff ℤ)) (s : Sound h ls) where
   pub sound-long : length (written h ls) ≤ 45126
   sound-long = omega (arith, written-long h ls, s .few-lists, s .few-ranges)
 
-  -- (a) what is written is read
+  -- what is written is read
   pub records-written : records-of (written h ls) ≡ accepted h ls
   records-written =
       records-short (written h ls) sound-long
       ∙ (λ i. finish (read-file 0 (sym (append-nil (written h ls)) i)))
       ∙ ap finish (reads-file .whole 0 [])
 
-  -- (c) a proper front is cut short at the record that it cuts
+  -- a proper front is cut short at the record that it cuts
   pub records-front : (n : ℕ) → n < length (written h ls) → records-of (take n (written h ls)) ≡ refused (CutShort (record-at n (records (h, ls))))
   records-front n l =
       let z : 0 + record-at n (records (h, ls)) ≡ record-at n (records (h, ls)) = omega arith in
@@ -262,7 +262,7 @@ module _ (h : Head) (ls : List (Tariff ℤ)) (s : Sound h ls) where
       ∙ ap finish (reads-file .front 0 n l)
       ∙ ap (λ (k : ℕ). refused (CutShort k)) z
 
-  -- (d) bytes after it are left over
+  -- bytes after it are left over
   pub records-more : (x : ℕ) (more : List ℕ) → length (written h ls ++ (x ∷ more)) ≤ 45126 → records-of (written h ls ++ (x ∷ more)) ≡ refused (LeftOver (length (written h ls)))
   records-more x more l =
       let z : 0 + length (written h ls) ≡ length (written h ls) = omega arith in
@@ -270,7 +270,7 @@ module _ (h : Head) (ls : List (Tariff ℤ)) (s : Sound h ls) where
       ∙ ap finish (reads-file .whole 0 (x ∷ more))
       ∙ ap (λ (k : ℕ). refused (LeftOver k)) z
 
--- (b) whatever is accepted is sound, and written of what it gives
+-- whatever is accepted is sound, and written of what it gives
 pub records-accepted : (b : List ℕ) (h : Head) (ls : List (Tariff ℤ)) → Bytes b → records-of b ≡ accepted h ls → (b ≡ written h ls) × Sound h ls
 unfolding records-of
 records-accepted b h ls y e = long (ltb 45126 (length b)) e

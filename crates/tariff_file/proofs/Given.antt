@@ -161,9 +161,6 @@ module _ (b : List ℕ) where
     is-given r (d, clear) = let (p, f, o) = met r d in ⊎-elim (λ e. f ∙ ap refused e) (λ l. absurd (clear p l (file-due p y f))) o
 
     -- each refusal is given exactly when it is due and none of an earlier turn is
-    pub records-refused : (r : Refusal) → (records-of b ≡ refused r) ↔ Given b r
-    records-refused r = (given r, is-given r)
-
     pub refused-exactly : (r : Refusal) → (read b ≡ refused r) ↔ Given b r
     refused-exactly r = (λ e. given r (read-refused b r .0 e), λ g. read-refused b r .1 (is-given r g))
 

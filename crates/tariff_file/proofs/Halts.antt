@@ -26,7 +26,7 @@ use Rattle.tariff_file.proofs.File.{range-format, Range, range-single, 
 abbrev next : ℕ → Tariff ℤ → ℕ
 next before l = before + length l
 
-known-total : (before : ℕ) (ls : List (Tariff ℤ)) → known-after read-list next before ls ≡ before + total (map length ls)
+known-total : (before : ℕ) (ls : List (Tariff ℤ)) → known-after next before ls ≡ before + total (map length ls)
 known-total before [] = omega arith
 known-total before (l ∷ ls) = omega (arith, known-total (before + length l) ls)
 
@@ -64,7 +64,7 @@ module _ (b : List ℕ) where
       let n = length (g .said) in
       let H = single head-layout head-fault (head-held h n) in
       let rest = flat (map list-records (g .done)) in
-      let z : known-after read-list next 0 (g .done) ≡ before g = omega (arith, known-total 0 (g .done)) in
+      let z : known-after next 0 (g .done) ≡ before g = omega (arith, known-total 0 (g .done)) in
       then-past (one-format head-layout head-fault (omega arith)) after-head (head-held h n) (sound-head h (g .said) (g .sound)) (whole-first H rest (g .whole))
       ∙ ap (λ x. follow x (λ ls. got (h, ls)))
       (many-past read-list next list-records List-ok list-format n 0 (g .done) (few-lists 0 (g .done) (omega (arith, g .few-ranges)) (g .all-held)) (g .fewer) (whole-next H rest (g .whole)) r
@@ -136,7 +136,7 @@ module _ (b : List ℕ) where
       let few = lists-few 0 (m .done) (omega arith) (m .ok) in
       let said : List (Tariff ℤ) = replicate n [] in
       let long : n ≡ length said = sym (length-replicate n []) in
-      let z : total (map length (m .done)) ≡ known-after read-list next 0 (m .done) = omega (arith, known-total 0 (m .done)) in
+      let z : total (map length (m .done)) ≡ known-after next 0 (m .done) = omega (arith, known-total 0 (m .done)) in
       list-halts
       (record {
         head = h;

@@ -1,4 +1,4 @@
--- The laws of the tariff file: `Read`, `Longest` and `Given` have those of a file, `File` those of its records. `Number`, `Record`, `Sequence` and `Stops` know no format; `Places` and `Columns` are for the code.
+-- The laws of the tariff file: `Read`, `Longest` and `Given` have those of a file, `File` and `Halts` those of its records; `Examples` is computed. `Number`, `Record`, `Sequence` and `Stops` know no format; `Places` and `Columns` are for the code.
 pub mod Number
 pub mod Sequence
 pub mod Record

@@ -1,22 +1,20 @@
 -- One law for a record, whatever its layout and what is asked of it. Assumes nothing.
-use Prim.Native.Nat.{ℕ, zero, suc, _+_, _-_, _≤_, _<_}
+use Prim.Native.Nat.{ℕ, zero, suc, _+_, _≤_, _<_}
 use mathlib.Core.Path.{_≡_, refl, sym, ap, subst, _∙_}
 use mathlib.Core.Bool.{Bool, true, false, cond, _&&_}
-use mathlib.Core.Option.{Option, none, some}
+use mathlib.Core.Option.{none, some}
 use mathlib.Core.List.{List, [], _∷_, _++_, append-assoc, append-nil}
 use native.Mathlib.Omega.{arith}
-use native.Mathlib.Nat.{add-zero}
 use lib.Dec.{leb, eqb}
 use lib.ListN.{length, take, drop, length-append, length-take, length-drop, take-append-drop}
 use lib.Seq.{take-at, drop-at, take-add, length-take-le}
 use borrow.Author.Tests.{leb-true, le-leb, lt-leb, eqb-true, eq-eqb}
 use Rattle.many_way_rules.specs.Sheet.{flat}
 use Rattle.tariff_file.specs.Layout.{Bytes, Field, size, sizes, Values, AllHold, field-bytes, field-value, values-bytes, values, Layout, Held, record-bytes}
-use Rattle.tariff_file.specs.Reader.{Parsed, stop, got, Reader, Fault, judged, one, record-at}
-use Rattle.tariff_file.specs.declared.Refusal.{Refusal}
+use Rattle.tariff_file.specs.Reader.{stop, got, Fault, judged, one, record-at}
 use Rattle.tariff_file.specs.declared.Refusal.the-variants.{CutShort, WrongMark}
 use Rattle.tariff_file.proofs.Number.{Some, field-long, field-back, field-exact, field-are-bytes}
-use Rattle.tariff_file.proofs.Sequence.{Reads, Given, Only, Format, record-first, bytes-after, bytes-both}
+use Rattle.tariff_file.proofs.Sequence.{Reads, Split, Only, Format, record-first, bytes-after, bytes-both}
 
 abbrev pub Somes : List Field → Type 0
 Somes [] = Unit {0}
@@ -128,7 +126,7 @@ module _ (l : Layout) (asked : Held l → Fault) where
       where
         go : (p : Bool) → eqb a (l .first) ≡ p → (q : Bool) → eqb c (l .second) ≡ q → (t : Bool) → leb (sizes (l .fields)) (length b) ≡ t → (f : Fault) → asked (values (l .fields) b) ≡ f
             → cond (p && q) (cond t (judged f at (got (values (l .fields) b) (at + (2 + sizes (l .fields))) (drop (sizes (l .fields)) b))) (stop (CutShort at))) (stop (WrongMark at)) ≡ got v past more
-            → Given (λ v rs. (rs ≡ single v) × Fine v) at (a ∷ c ∷ b) v past more
+            → Split (λ v rs. (rs ≡ single v) × Fine v) at (a ∷ c ∷ b) v past more
         go true ep true eq true et none ef e =
             let s = sizes (l .fields) in
             let w = values (l .fields) b in

@@ -12,7 +12,6 @@ use borrow.Author.Tests.{ltb-true, ltb-false, lt-ltb, le-ltb}
 use Rattle.many_way_rules.specs.Sheet.{flat}
 use Rattle.tariff_file.specs.Layout.{Bytes}
 use Rattle.tariff_file.specs.Reader.{Parsed, stop, got, Reader, follow, _then_, many, record-at}
-use Rattle.tariff_file.specs.declared.Refusal.{Refusal}
 use Rattle.tariff_file.specs.declared.Refusal.the-variants.{CutShort}
 
 pub bytes-after : (a b : List ℕ) → Bytes (a ++ b) → Bytes b
@@ -59,14 +58,14 @@ pub record Reads {A : Type 0} (p : Reader A) (a : A) (rs : List (List ℕ)) : Ty
   pub front : (at n : ℕ) → n < length (flat rs) → p at (take n (flat rs)) ≡ stop (CutShort (at + record-at n rs))
 
 -- what p reads from bytes is written by records that Q tells of it
-pub record Given {A : Type 0} (Q : A → List (List ℕ) → Type 0) (at : ℕ) (b : List ℕ) (a : A) (past : ℕ) (more : List ℕ) : Type 0 where
+pub record Split {A : Type 0} (Q : A → List (List ℕ) → Type 0) (at : ℕ) (b : List ℕ) (a : A) (past : ℕ) (more : List ℕ) : Type 0 where
   pub records : List (List ℕ)
   pub fits : Q a records
   pub whole : b ≡ flat records ++ more
   pub place : past ≡ at + length (flat records)
 
 abbrev pub Only : {A : Type 0} → Reader A → (A → List (List ℕ) → Type 0) → Type 0
-Only {A} p Q = (at : ℕ) (b : List ℕ) (a : A) (past : ℕ) (more : List ℕ) → Bytes b → p at b ≡ got a past more → Given Q at b a past more
+Only {A} p Q = (at : ℕ) (b : List ℕ) (a : A) (past : ℕ) (more : List ℕ) → Bytes b → p at b ≡ got a past more → Split Q at b a past more
 
 module _ {A : Type 0} where
   pub reads-got : (a : A) → Reads (got a) a []
@@ -116,7 +115,7 @@ module _ {A : Type 0} where
     pub only-then : (Q : A → List (List ℕ) → Type 0) (T : B → List (List ℕ) → Type 0) → Only p Q → ((a : A) (rs : List (List ℕ)) → Q a rs → Only (k a) (λ c ss. T c (rs ++ ss))) → Only (p then k) T
     only-then Q T hp hk at b c past more y e = go (p at b) refl e
       where
-        go : (r : Parsed A) → p at b ≡ r → follow r k ≡ got c past more → Given T at b c past more
+        go : (r : Parsed A) → p at b ≡ r → follow r k ≡ got c past more → Split T at b c past more
         go (stop s) q e = absurd (let no : _≡_ {A = ℕ} 0 1 = cc in omega arith)
         go (got a m x) q e =
             let g = hp at b a m x y q in

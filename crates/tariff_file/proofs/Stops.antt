@@ -102,7 +102,7 @@ module _ {A B : Type 0} {p : Reader A} {R : A → List (List ℕ)} {Ok : A → T
           let z = g .fits .0 in
           inr (record { value = a; ok = g .fits .1; at = at; rest = c; whole = record { same = g .whole ∙ ap (λ (rs : List (List ℕ)). flat rs ++ c) z; place = g .place ∙ ap (λ (rs : List (List ℕ)). from + length (flat rs)) z }; stops = e })
 
-module _ {A S : Type 0} (p : S → Reader A) (next : S → A → S) where
+module _ {A S : Type 0} (next : S → A → S) where
   -- what is known after some
   abbrev pub known-after : S → List A → S
   known-after s [] = s
@@ -113,7 +113,7 @@ module _ {A S : Type 0} (p : S → Reader A) (next : S → A → S) (R : A → L
   turned n s a = many p next n (next s a) then (λ xs. got (a ∷ xs))
 
   pub many-past : (n : ℕ) (s : S) (xs : List A) → AllOk p next R Ok s xs → length xs < n → {from : ℕ} {b : List ℕ} {at : ℕ} {c : List ℕ} → Whole (flat (map R xs)) from b at c →
-      (r : Refusal) → p (known-after p next s xs) at c ≡ stop r → many p next n s from b ≡ stop r
+      (r : Refusal) → p (known-after next s xs) at c ≡ stop r → many p next n s from b ≡ stop r
   many-past zero s xs h l w r e = absurd (let no : ⊥ = omega arith in no)
   many-past (suc n) s [] h l {from} w r e =
       let z = w .place ∙ add-zero from in
@@ -131,7 +131,7 @@ module _ {A S : Type 0} (p : S → Reader A) (next : S → A → S) (R : A → L
     pub at : ℕ
     pub rest : List ℕ
     pub whole : Whole (flat (map R done)) from b at rest
-    pub stops : p (known-after p next s done) at rest ≡ stop r
+    pub stops : p (known-after next s done) at rest ≡ stop r
 
   pub many-stops : (n : ℕ) (s : S) (from : ℕ) (b : List ℕ) (r : Refusal) → Bytes b → many p next n s from b ≡ stop r → Among n s from b r
   many-stops zero s from b r y e = absurd (let no : _≡_ {A = ℕ} 0 1 = cc in omega arith)

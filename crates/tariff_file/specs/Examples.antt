@@ -4,7 +4,7 @@ use mathlib.Core.List.{List, [], _∷_, _++_}
 use lib.IntN.{ℤ, pos, negsuc}
 use lib.ListN.{take, drop, set, replicate}
 use Rattle.many_way_rules.specs.Sheet.{Typed, Tariff}
-use Rattle.tariff_file.specs.File.{Head, Reading, refused, ill-formed, accepted, read}
+use Rattle.tariff_file.specs.File.{Head, Reading, refused, ill-formed, accepted}
 use Rattle.rules.specs.declared.Answer.the-variants.{Backward}
 use Rattle.tariff_file.specs.declared.Refusal.the-variants.{TooLong, WrongMark, CutShort, LeftOver, UnknownOperation, TooManyLists, NotTwoLists, UnknownCombiner, TooManyRanges}
 

@@ -17,7 +17,7 @@ use Rattle.many_way_rules.specs.Combiners.{known}
 use Rattle.many_way_rules.specs.Sheet.{Typed, Tariff, flat, lend}
 use Rattle.many_way_rules.specs.declared.Admission.the-variants.{Every, Any, Odd}
 use Rattle.many_way_rules.specs.declared.Pick.the-variants.{Highest}
-use Rattle.tariff_file.specs.Layout.{Layout, Held, Field, unsigned, signed, AllHold, record-bytes}
+use Rattle.tariff_file.specs.Layout.{Layout, Held, unsigned, signed, AllHold, record-bytes}
 use Rattle.tariff_file.specs.Reader.{Parsed, stop, got, Reader, Fault, _then_, one, many}
 use Rattle.tariff_file.specs.declared.Refusal.{Refusal}
 use Rattle.tariff_file.specs.declared.Refusal.the-variants.{TooLong, WrongMark, CutShort, LeftOver, UnknownOperation, TooManyLists, NotTwoLists, UnknownCombiner, TooManyRanges}

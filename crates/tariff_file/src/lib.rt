@@ -13,7 +13,8 @@ pub enum Task {
     Select(Pick, Admission),
 }
 
-// Why a tariff file is refused. The number is the offset of the record at fault, or of the first byte left over.
+// Why a tariff file is refused. The number is the offset of the record at fault, or of the first byte left over; of one too long it is
+// the most bytes of a file, 45,126.
 pub enum Refusal {
     TooLong,
     WrongMark(usize),

@@ -1,7 +1,7 @@
 -- A whole text at the front of a buffer, or none of it; an answer is its header, then its rows; the fields of their lines. Assumes nothing.
 use Prim.Native.Nat.{ℕ, zero, suc, _+_, _-_, _≤_, _<_}
 use mathlib.Core.Path.{_≡_, refl, sym, ap, _∙_}
-use mathlib.Core.Bool.{true, false}
+use mathlib.Core.Bool.{Bool, true, false}
 use mathlib.Core.List.{List, _∷_, [], _++_, map, append-nil}
 use native.Mathlib.Nat.{zero-add}
 use native.Mathlib.Omega.{arith}
@@ -53,13 +53,13 @@ module _ {t a b old : List ℕ} {k : ℕ} (m : Halves t a b old k) where
   first-unfit h = unprinted t old (omega (arith, long))
 
   -- the second is tested after the first
-  module _ (l : k ≤ length old) where
-    pub second-unfit : leb (length b) (length old - k) ≡ false → leaves 0 old ≡ print t old
-    second-unfit f = unprinted t old (omega (arith, long, leb-false (length b) (length old - k) f))
+  module _ (l : k ≤ length old) {fits : Bool} (e : fits ≡ leb (length b) (length old - k)) where
+    pub second-unfit : fits ≡ false → leaves 0 old ≡ print t old
+    second-unfit f = unprinted t old (omega (arith, long, leb-false (length b) (length old - k) (sym e ∙ f)))
 
-    module _ (f : leb (length b) (length old - k) ≡ true) where
+    module _ (f : fits ≡ true) where
       all-fits : length t ≤ length old
-      all-fits = omega (arith, long, leb-true (length b) (length old - k) f)
+      all-fits = omega (arith, long, leb-true (length b) (length old - k) (sym e ∙ f))
 
       pub first-room : Room 0 a old
       first-room = omega (arith, m .first)

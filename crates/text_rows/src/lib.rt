@@ -77,7 +77,8 @@ pub fn print_paired(
     out: &mut [u8],
 ) -> usize
     requires { ⌜ Pairs (pair-output start end left right presence) n ⌝ }
-    ensures { λ r. ⌜ leaves r (now (out .exit)) ≡ print (paired-text operation combiner lists (pair-before start end left right presence) n) (now (out .entry)) ⌝ }
+    ensures { λ r. ⌜ leaves r (now (out .exit))
+        ≡ print (paired-text operation combiner lists (pair-before start end left right presence) n) (now (out .entry)) ⌝ }
 {
     let head = header_width(operation, combiner, lists, n);
     if out.len() < head {

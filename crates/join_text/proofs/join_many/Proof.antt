@@ -1,6 +1,6 @@
 -- `join_many` meets its contract: what the merge left is printed. Assumes nothing.
-use Prim.Native.Nat.{ℕ, _≤_}
-use mathlib.Core.Path.{_≡_, refl, sym, ap, _∙_}
+use Prim.Native.Nat.{ℕ}
+use mathlib.Core.Path.{_≡_, sym, ap, _∙_}
 use mathlib.Core.List.{List}
 use native.Mathlib.Omega.{arith}
 use borrow.Author.Needs.{needs}
@@ -27,7 +27,7 @@ start-of m = m .before .before .before .before .before .before
 abbrev left : tie.After-merge-lists → Merged ℤ
 left m = let l = m .merge-lists .last .1 .1 .1 .1 .1 in record { start = l .0; end = l .1 .0; value = l .1 .1 .0 }
 
-merged : (m : tie.After-merge-lists) → leaves (m .merge-lists .result) (left m) ≡ merging instants (start-of m .args .asked) (lists (start-of m)) merge-room
+merged : (m : tie.After-merge-lists) → leaves (m .merge-lists .result) (left m) ≡ merging instants (start-of m .args .how) (lists (start-of m)) merge-room
 merged m = m .merge-lists .ensures
 
 -- a refusal is printed
@@ -41,7 +41,7 @@ returns c =
     p .print-refusal .ensures
     ∙ ap (λ (t : List ℕ). print t (s .args .text .now))
     ((λ i. refusal-text (k .code .ensures i) (n .number .ensures i))
-    ∙ sym (merged-refused (s .args .asked) (lists s) (left m) (m .merge-lists .result) (merged m) (head (s .args .operation) (s .args .combiner)) (omega (arith, k .code .ensures))))
+    ∙ sym (merged-refused (s .args .how) (lists s) (left m) (m .merge-lists .result) (merged m) (head (s .args .operation) (s .args .combiner)) (omega (arith, k .code .ensures))))
 
 -- the columns have the pieces
 print-merged-requires : tie.Need-print-merged-requires
@@ -50,7 +50,7 @@ print-merged-requires c κs =
     let s = start-of m in
     let k : tie.After-code = search in
     let n : tie.After-number2 = search in
-    let few = merged-few (s .args .asked) (lists s) (left m) (m .merge-lists .result) (merged m) (omega (arith, k .code .ensures)) in
+    let few = merged-few (s .args .how) (lists s) (left m) (m .merge-lists .result) (merged m) (omega (arith, k .code .ensures)) in
     let long = length-replicate 4095 (pos 0) in
     let kept = m .merge-lists .kept .1 .1 .1 .1 .1 in
     record { start = omega (arith, few, long, n .number2 .ensures, kept .0); end = omega (arith, few, long, n .number2 .ensures, kept .1 .0); value = omega (arith, few, long, n .number2 .ensures, kept .1 .1 .0) }
@@ -66,7 +66,7 @@ returns-2 c =
     p .print-merged .ensures
     ∙ ap (λ (t : List ℕ). print t (s .args .text .now))
     (ap (merged-text (s .args .operation) (s .args .combiner) (length (s .args .counts .now)) (left m)) (n .number2 .ensures)
-    ∙ sym (merged-done (s .args .asked) (lists s) (left m) (m .merge-lists .result) (merged m) (head (s .args .operation) (s .args .combiner)) (omega (arith, k .code .ensures))))
+    ∙ sym (merged-done (s .args .how) (lists s) (left m) (m .merge-lists .result) (merged m) (head (s .args .operation) (s .args .combiner)) (omega (arith, k .code .ensures))))
 
 pub join-many-spec : {M : Type 1} → statement M
 join-many-spec =

@@ -1,5 +1,5 @@
 -- `join_pairs` meets its contract: what the join left is printed. Assumes nothing.
-use Prim.Native.Nat.{ℕ, _≤_}
+use Prim.Native.Nat.{ℕ}
 use mathlib.Core.Path.{_≡_, sym, ap, _∙_}
 use mathlib.Core.List.{List}
 use native.Mathlib.Omega.{arith}
@@ -27,7 +27,7 @@ start-of m = m .before .before .before .before .before .before .before .before
 abbrev left : tie.After-join-lists → Paired ℤ
 left m = let l = m .join-lists .last .1 .1 .1 .1 .1 in record { start = l .0; end = l .1 .0; left = l .1 .1 .0; right = l .1 .1 .1 .0; presence = l .1 .1 .1 .1 .0 }
 
-joined : (m : tie.After-join-lists) → leaves (m .join-lists .result) (left m) ≡ pairing instants (start-of m .args .asked) (lists (start-of m)) pair-room
+joined : (m : tie.After-join-lists) → leaves (m .join-lists .result) (left m) ≡ pairing instants (start-of m .args .how) (lists (start-of m)) pair-room
 joined m = m .join-lists .ensures
 
 -- a count is asked for where the code is 0
@@ -48,7 +48,7 @@ returns c =
     p .print-refusal .ensures
     ∙ ap (λ (t : List ℕ). print t (s .args .text .now))
     ((λ i. refusal-text (k .code .ensures i) (n .number .ensures i))
-    ∙ sym (paired-refused (s .args .asked) (lists s) (left m) (m .join-lists .result) (joined m) (head (s .args .operation) (s .args .combiner)) (omega (arith, k .code .ensures))))
+    ∙ sym (paired-refused (s .args .how) (lists s) (left m) (m .join-lists .result) (joined m) (head (s .args .operation) (s .args .combiner)) (omega (arith, k .code .ensures))))
 
 -- the columns have the pieces
 print-paired-requires : tie.Need-print-paired-requires
@@ -57,7 +57,7 @@ print-paired-requires c κs =
     let s = start-of m in
     let k : tie.After-code = search in
     let n : tie.After-number2 = search in
-    let few = paired-few (s .args .asked) (lists s) (left m) (m .join-lists .result) (joined m) (omega (arith, k .code .ensures)) in
+    let few = paired-few (s .args .how) (lists s) (left m) (m .join-lists .result) (joined m) (omega (arith, k .code .ensures)) in
     let long = length-replicate 4095 (pos 0) in
     let short = length-replicate {A = ℕ} 4095 0 in
     let kept = m .join-lists .kept .1 .1 .1 .1 .1 in
@@ -79,7 +79,7 @@ returns-2 c =
     p .print-paired .ensures
     ∙ ap (λ (t : List ℕ). print t (s .args .text .now))
     (ap (paired-text (s .args .operation) (s .args .combiner) (length (s .args .counts .now)) (left m)) (n .number2 .ensures)
-    ∙ sym (paired-done (s .args .asked) (lists s) (left m) (m .join-lists .result) (joined m) (head (s .args .operation) (s .args .combiner)) (omega (arith, branch n .if1 .left, coded n .code .ensures))))
+    ∙ sym (paired-done (s .args .how) (lists s) (left m) (m .join-lists .result) (joined m) (head (s .args .operation) (s .args .combiner)) (omega (arith, branch n .if1 .left, coded n .code .ensures))))
 
 pub join-pairs-spec : {M : Type 1} → statement M
 join-pairs-spec =

@@ -1,12 +1,8 @@
 -- `print_paired` meets its contract: the header, then the rows. Assumes nothing.
-use Prim.Native.Nat.{ℕ, _-_}
-use mathlib.Core.Path.{_≡_, sym, _∙_}
-use mathlib.Core.Bool.{Bool, true, false}
+use Prim.Native.Nat.{ℕ}
 use mathlib.Core.List.{List}
 use native.Mathlib.Omega.{arith}
-use lib.Dec.{leb}
 use lib.IntN.{ℤ}
-use lib.ListN.{length}
 use borrow.Author.Needs.{needs}
 use Rattle.rules.specs.Paired.{Paired, output}
 use Rattle.answer_text.specs.Answers.{paired-text}
@@ -37,16 +33,6 @@ halves c =
     let a = S₀ c .args in
     record { parts = paired-parts (a .operation) (a .combiner) (a .lists) (P₀ (S₀ c)) (a .n); first = c .header-width .ensures }
 
--- whether the rows fit after the header
-abbrev Fit : tie.After-fit → Bool → Type 0
-Fit c t = let s = S₀ (c .before .before) in leb (length (R s)) (length (s .args .out .now) - c .before .before .header-width .result) ≡ t
-
-yes : (c : tie.Then2) → Fit (c .before) true
-yes c = sym (c .before .fit .ensures) ∙ c .if2 .taken
-
-no : (c : tie.Else2) → Fit (c .before) false
-no c = sym (c .before .fit .ensures) ∙ c .if2 .left
-
 pub print-paired-spec : {M : Type 1} → statement M
 print-paired-spec =
     tie.close
@@ -58,19 +44,19 @@ print-paired-spec =
     (λ c κs.
     let h : tie.After-header-width = search in
     let i : tie.Then2 = search in
-    first-room (halves h) (omega arith) (yes i))
+    first-room (halves h) (omega arith) (i .before .fit .ensures) (i .if2 .taken))
     (λ c κs.
     let h : tie.After-header-width = search in
     let i : tie.Then2 = search in
     let p : tie.After-put-header = search in
-    (S₀ h .pre, second-room (halves h) (omega arith) (yes i) (p .put-header .ensures)))
+    (S₀ h .pre, second-room (halves h) (omega arith) (i .before .fit .ensures) (i .if2 .taken) (p .put-header .ensures)))
     (λ c. search needs)
     (λ c.
     let h : tie.After-header-width = search in
     let i : tie.Then2 = search in
     let p : tie.After-put-header = search in
     let q : tie.After-put-rows = search in
-    both-printed (halves h) (omega arith) (yes i) (p .put-header .ensures) (q .put-rows .ensures))
+    both-printed (halves h) (omega arith) (i .before .fit .ensures) (i .if2 .taken) (p .put-header .ensures) (q .put-rows .ensures))
     (λ c.
     let h : tie.After-header-width = search in
-    second-unfit (halves h) (omega arith) (no c)))
+    second-unfit (halves h) (omega arith) (c .before .fit .ensures) (c .if2 .left)))
