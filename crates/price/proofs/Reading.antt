@@ -3,11 +3,11 @@ use Prim.Native.Nat.{ℕ, zero, suc, _+_, _≤_, _<_}
 use mathlib.Core.Path.{_≡_, refl, sym, ap, _∙_}
 use mathlib.Core.Logic.{_⊎_, inl, inr}
 use mathlib.Core.Bool.{cond, _&&_}
-use mathlib.Core.Option.{none, some}
+use mathlib.Core.Option.{Option, none, some}
 use mathlib.Core.List.{List, [], _∷_, _++_, map}
 use native.Mathlib.Omega.{arith}
 use lib.Dec.{leb}
-use lib.IntN.{pos}
+use lib.IntN.{ℤ, pos}
 use lib.ListN.{length, getD, drop, length-append, length-map}
 use borrow.Author.Tests.{le-leb, lt-leb, lt-ltb}
 use Rattle.rules.specs.Piece.{Piece, Range, at, holds, Within}
@@ -97,9 +97,18 @@ module _ {P : Type 0} (w : Width P) where
     unfolding price-at
     price-none z = let q : places c n ≡ 0 = omega arith in rw q
 
-    pub price-found : {i : ℕ} {x : Range} → 0 < m → i ≡ found (keys w (c .start)) p m → x ≡ piece w c i → charge x p ≡ price-at w c n p
+    pub price-found : {i : ℕ} {x : Option ℤ} → 0 < m → i ≡ found (keys w (c .start)) p m → x ≡ charge (piece w c i) p → x ≡ price-at w c n p
     unfolding price-at
-    price-found h f q = rw (← e, lt-ltb 0 m h, ← f) (ap (λ y. charge y p) q)
+    price-found h f q = rw (← e, lt-ltb 0 m h, ← f) q
+
+  -- what is charged by a piece is charged by the one at a place that is the same
+  pub charge-at : (c : Merged P) (i p : ℕ) {x : Range} {z : Option ℤ} → z ≡ charge x p → x ≡ piece w c i → z ≡ charge (piece w c i) p
+  charge-at c i p e q = e ∙ ap (λ y. charge y p) q
+
+  -- only the places that count matter
+  pub price-same : (c : Merged P) (n p : ℕ) {m : ℕ} {x : Option ℤ} → m ≡ places c n → x ≡ price-at w c m p → x ≡ price-at w c n p
+  unfolding price-at
+  price-same c n p {m} e f = let q : places c m ≡ places c n = omega arith in f ∙ rw q
 
   pub price-is-at : (c : Merged P) (n p d : ℕ) → Within 0 d (pieces c n) → price-at w c n p ≡ at (pieces c n) p
   price-is-at c n p d a = go (le-or-lt (places c n) 0)

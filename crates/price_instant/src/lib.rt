@@ -16,7 +16,8 @@ ghost use lib.ListN.{length};
 ghost use Rattle.rules.specs.Lists.{instants, keys};
 ghost use Rattle.rules.specs.Answer.{leaves};
 ghost use Rattle.rules.specs.Merged as merged;
-ghost use Rattle.price.specs.Reading.{said, begun, count, halve, found, price-at};
+ghost use Rattle.rules.specs.Merged.{room};
+ghost use Rattle.price.specs.Reading.{said, begun, count, halve, found, charge, piece, price-at};
 ghost use Rattle.price.specs.Batch.{before, after, prices-at};
 
 // 1 where the start at a place is not beyond the point, else 0.
@@ -61,33 +62,67 @@ fn halve(start: &[Point], among: usize, most: usize, point: u64) -> usize
     base
 }
 
-// The place found among the first starts, so many of them: where they ascend, the last that is not beyond the point.
+// The place found among the first starts, 16 or more of them: where they ascend, the last that is not beyond the point.
 fn find(start: &[Point], among: usize, point: u64) -> usize
-    requires { ⌜ (0 < among) × (among ≤ length (now start)) ⌝ }
+    requires { ⌜ (16 ≤ among) × (among ≤ length (now start)) ⌝ }
     ensures { λ r. ⌜ (r ≡ found (keys instants (now (start .entry))) point among) × (r < among) ⌝ }
 {
-    if among >= 16 {
-        let base = shorter(halve(start, among, 16, point), among - 16);
-        return base + count(start, base, 15, point);
-    }
-    halve(start, among, 1, point)
+    let base = shorter(halve(start, among, 16, point), among - 16);
+    base + count(start, base, 15, point)
 }
 
-// The price at the point with a key.
-fn price_at_key(start: &[Point], end: &[Point], value: &[i64], pieces: usize, point: u64) -> Price
-    ensures { λ r. ⌜ said r ≡ price-at instants (merged.before «start» «end» «value») pieces point ⌝ }
+// What the piece at a place says of the point.
+fn charge(start: &[Point], end: &[Point], value: &[i64], place: usize, point: u64) -> Price
+    requires { ⌜ place < room (merged.output «start» «end» «value») ⌝ }
+    ensures { λ r. ⌜ said r ≡ charge (piece instants (merged.before «start» «end» «value») place) point ⌝ }
 {
-    let counted = places(pieces, start.len(), end.len(), value.len());
-    if counted == 0 {
-        return Price::Nothing;
-    }
-    let place = find(start, counted, point);
     charged(
         key_at(start, place),
         key_at(end, place),
         value[place],
         point,
     )
+}
+
+// The price at the point with a key, of pieces that are few.
+fn price_of_few(start: &[Point], end: &[Point], value: &[i64], pieces: usize, point: u64) -> Price
+    requires { ⌜ (pieces < 16) × (pieces ≤ room (merged.output «start» «end» «value»)) ⌝ }
+    ensures { λ r. ⌜ said r ≡ price-at instants (merged.before «start» «end» «value») pieces point ⌝ }
+{
+    if pieces == 0 {
+        return Price::Nothing;
+    }
+    let place = halve(start, pieces, 1, point);
+    charge(start, end, value, place, point)
+}
+
+// The price at the point with a key, of pieces that are many.
+fn price_of_many(start: &[Point], end: &[Point], value: &[i64], pieces: usize, point: u64) -> Price
+    requires { ⌜ (16 ≤ pieces) × (pieces ≤ room (merged.output «start» «end» «value»)) ⌝ }
+    ensures { λ r. ⌜ said r ≡ price-at instants (merged.before «start» «end» «value») pieces point ⌝ }
+{
+    let place = find(start, pieces, point);
+    charge(start, end, value, place, point)
+}
+
+// The price at the point with a key. Where all columns have many pieces, a search does not wait for the least of the lengths.
+fn price_at_key(start: &[Point], end: &[Point], value: &[i64], pieces: usize, point: u64) -> Price
+    ensures { λ r. ⌜ said r ≡ price-at instants (merged.before «start» «end» «value») pieces point ⌝ }
+{
+    let counted = if (pieces < 16)
+        | (start.len() < pieces)
+        | (end.len() < pieces)
+        | (value.len() < pieces)
+    {
+        let counted = places(pieces, start.len(), end.len(), value.len());
+        if counted < 16 {
+            return price_of_few(start, end, value, counted, point);
+        }
+        counted
+    } else {
+        pieces
+    };
+    price_of_many(start, end, value, counted, point)
 }
 
 // The price at a point: of the first pieces of the columns, so many of them, what the one that has it says.

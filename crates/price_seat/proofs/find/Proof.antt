@@ -1,8 +1,8 @@
--- `find` meets its contract: by halving alone, or by halving and counting. Assumes nothing.
+-- `find` meets its contract: by halving and counting. Assumes nothing.
 use native.Mathlib.Omega.{arith}
 use borrow.Author.Needs.{needs}
 use Rattle.rules.specs.Lists.{seats, keys}
-use Rattle.price.proofs.Halving.{found-few, found-many}
+use Rattle.price.proofs.Halving.{found-many}
 use Rattle.price_seat.proofs.find.Statement.{statement}
 use Rattle.price_seat.proofs.find.Tie as tie
 
@@ -11,18 +11,13 @@ find-spec =
     tie.close
     (tie.spec
     (λ c κs. search needs)
+    (λ c. search needs)
     (λ c κs. search needs)
     (λ c κs. search needs)
     (λ c. search needs)
-    -- 16 and more
     (λ c.
     let s : tie.Start = search in
     let b = c .before in (
       found-many (keys seats (s .args .start .now)) (s .args .point) (omega arith) (b .before .halve .ensures .0) (b .shorter .ensures) (c .count .ensures .0),
       omega (arith, b .shorter .ensures, c .count .ensures .1),
-    ))
-    (λ c κs. search needs)
-    -- fewer
-    (λ c.
-    let s : tie.Start = search in
-    (found-few (keys seats (s .args .start .now)) (s .args .point) (omega arith) (c .halve2 .ensures .0), c .halve2 .ensures .1)))
+    )))
