@@ -3,15 +3,16 @@ use Prim.Native.Nat.{ℕ, _<_}
 use mathlib.Core.Path.{_≡_, refl, sym, ap, _∙_}
 use mathlib.Core.Option.{Option, none, some}
 use mathlib.Core.List.{List, [], _∷_}
-use lib.IntN.{ℤ, pos, _+ℤ_, +ℤ-assoc, +ℤ-comm}
+use lib.IntN.{ℤ, pos, _+ℤ_}
 use lib.ListN.{length, getD, set}
 use Rattle.rules.specs.Piece.{present}
 use Rattle.many_way_rules.specs.Combiners.{sum-of}
+use Rattle.many_way_rules.proofs.Combiners.{swapped}
 use Rattle.slots.specs.Tally.{Additive, tally}
 use Rattle.slots.proofs.Tally.{tally-begins, tally-ends}
 
 sums : Additive _+ℤ_
-sums = record { swap = λ a b c. sym (+ℤ-assoc a b c) ∙ ap (λ z. z +ℤ c) (+ℤ-comm a b) ∙ +ℤ-assoc b a c }
+sums = record { swap = swapped }
 
 pub tally-sum : (os : List (Option ℤ)) → tally (pos 0) _+ℤ_ (λ v. v) os ≡ sum-of (present os)
 tally-sum [] = refl

@@ -39,10 +39,10 @@ fn task_of(operation: u8) -> Asked
         1 => Asked::Known(Task::Pair(Pairing::Inner)),
         2 => Asked::Known(Task::Pair(Pairing::Left)),
         3 => Asked::Known(Task::Pair(Pairing::Full)),
-        4 => Asked::Known(Task::Join(Admission::Every)),
-        5 => Asked::Known(Task::Join(Admission::Any)),
-        6 => Asked::Known(Task::Select(Pick::Highest, Admission::Any)),
-        7 => Asked::Known(Task::Select(Pick::Highest, Admission::Odd)),
+        4 => Asked::Known(Task::Merge(Admission::Every)),
+        5 => Asked::Known(Task::Merge(Admission::Any)),
+        6 => Asked::Known(Task::Choose(Pick::Highest, Admission::Any)),
+        7 => Asked::Known(Task::Choose(Pick::Highest, Admission::Odd)),
         _ => Asked::Refused(Refusal::UnknownOperation(0)),
     }
 }
@@ -53,8 +53,8 @@ fn lists_right(task: Task, lists: usize) -> bool
 {
     match task {
         Task::Pair(_) => lists == 2,
-        Task::Join(_) => true,
-        Task::Select(_, _) => true,
+        Task::Merge(_) => true,
+        Task::Choose(_, _) => true,
     }
 }
 
@@ -64,8 +64,8 @@ fn combiner_right(task: Task, combiner: u8) -> bool
 {
     match task {
         Task::Pair(_) => combiner == 0,
-        Task::Join(_) => known(combiner),
-        Task::Select(_, _) => combiner == 0,
+        Task::Merge(_) => known(combiner),
+        Task::Choose(_, _) => combiner == 0,
     }
 }
 

@@ -48,7 +48,7 @@ fn is_two_way(kind: Kind) -> bool
     match kind {
         Kind::Listing => false,
         Kind::TwoWay => true,
-        Kind::Join(_) => false,
+        Kind::Combining(_) => false,
         Kind::Selection => false,
     }
 }
@@ -59,7 +59,7 @@ fn is_unknown(kind: Kind) -> bool
     match kind {
         Kind::Listing => false,
         Kind::TwoWay => false,
-        Kind::Join(known) => !known,
+        Kind::Combining(known) => !known,
         Kind::Selection => false,
     }
 }

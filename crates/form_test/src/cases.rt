@@ -159,7 +159,7 @@ pub(crate) fn kind(letter: u8, combiner: u8) -> Kind {
     match letter {
         b'l' => Kind::Listing,
         b't' => Kind::TwoWay,
-        b'j' => Kind::Join(known((number(combiner) % 256) as u8)),
+        b'j' => Kind::Combining(known((number(combiner) % 256) as u8)),
         _ => Kind::Selection,
     }
 }

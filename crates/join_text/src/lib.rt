@@ -126,11 +126,11 @@ pub fn perform(
         Task::Pair(how) => {
             join_pairs(how, operation, combiner, starts, ends, values, counts, text)
         }
-        Task::Join(admission) => {
+        Task::Merge(admission) => {
             let how = Operation::Join(admission, combiner);
             join_many(how, operation, combiner, starts, ends, values, counts, text)
         }
-        Task::Select(pick, admission) => {
+        Task::Choose(pick, admission) => {
             let how = Operation::Select(pick, admission);
             join_many(how, operation, combiner, starts, ends, values, counts, text)
         }

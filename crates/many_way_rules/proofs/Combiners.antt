@@ -42,7 +42,7 @@ combine-nothing zero h = absurd (false≢true h)
 combine-nothing (suc i) h = getD-replicate 5 i (some (pos 0)) none (omega (arith, tells-known (suc i) .yes h))
 
 -- 1: one value more, wherever it stands, is added, and the order does not matter
-swapped : (a b c : ℤ) → a +ℤ (b +ℤ c) ≡ b +ℤ (a +ℤ c)
+pub swapped : (a b c : ℤ) → a +ℤ (b +ℤ c) ≡ b +ℤ (a +ℤ c)
 swapped a b c = sym (+ℤ-assoc a b c) ∙ ap (λ z. z +ℤ c) (+ℤ-comm a b) ∙ +ℤ-assoc b a c
 
 sum-of-more : (xs ys : List ℤ) (v : ℤ) → sum-of (xs ++ v ∷ ys) ≡ v +ℤ sum-of (xs ++ ys)

@@ -5,7 +5,7 @@ use lib.ListN.{length}
 use Rattle.rules.specs.Lists.{Width, Lent, lists}
 use Rattle.rules.specs.Merged.{Merged}
 use Rattle.rules.specs.declared.Kind.{Kind}
-use Rattle.rules.specs.declared.Kind.the-variants.{Join as JoinKind, Selection}
+use Rattle.rules.specs.declared.Kind.the-variants.{Combining, Selection}
 use Rattle.rules.proofs.Operations.{Settled, MergedRow, MergedLater, merged-settled}
 use Rattle.many_way_rules.specs.Combiners.{known}
 use Rattle.many_way_rules.specs.Operations.{merged}
@@ -21,9 +21,9 @@ module _ {P : Type 0} (w : Width P) (l : Lent P) (c : Merged P) where
   Leaves k o = Settled w k l (merged o (w .points) (lists w l)) (length (c .start) ∷ length (c .end) ∷ length (c .value) ∷ []) (MergedRow w) MergedLater c (merging w o l c)
 
   -- code 7 can be due for a join, where its combiner is not known; for a selection neither it nor code 2
-  pub join-settled : (a : Admission) (combiner : ℕ) → Leaves (JoinKind (known combiner)) (Join a combiner)
+  pub join-settled : (a : Admission) (combiner : ℕ) → Leaves (Combining (known combiner)) (Join a combiner)
   unfolding merging
-  join-settled a combiner = merged-settled w l (JoinKind (known combiner)) (merged (Join a combiner) (w .points) (lists w l)) c
+  join-settled a combiner = merged-settled w l (Combining (known combiner)) (merged (Join a combiner) (w .points) (lists w l)) c
 
   pub selection-settled : (p : Pick) (a : Admission) → Leaves Selection (Select p a)
   unfolding merging

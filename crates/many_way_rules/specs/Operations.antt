@@ -8,7 +8,7 @@ use Rattle.rules.specs.Piece.{Range, present}
 use Rattle.rules.specs.Same.{eqℤ}
 use Rattle.rules.specs.Runs.{runs}
 use Rattle.rules.specs.declared.Kind.{Kind}
-use Rattle.rules.specs.declared.Kind.the-variants.{Join as JoinKind, Selection}
+use Rattle.rules.specs.declared.Kind.the-variants.{Combining, Selection}
 use Rattle.many_way_rules.specs.Combiners.{combine, known}
 use Rattle.many_way_rules.specs.Selections.{admitted, picked}
 use Rattle.many_way_rules.specs.declared.Admission.{Admission}
@@ -32,7 +32,7 @@ abbrev pub symmetric-difference : Operation
 symmetric-difference = Select Highest Odd
 
 abbrev pub kind-of : Operation → Kind
-kind-of (Join a c) = JoinKind (known c)
+kind-of (Join a c) = Combining (known c)
 kind-of (Select p a) = Selection
 
 abbrev pub admission : Operation → Admission

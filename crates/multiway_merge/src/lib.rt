@@ -24,7 +24,7 @@ pub fn kind_of(operation: Operation) -> Kind
     ensures { λ r. ⌜ r ≡ kind-of operation ⌝ }
 {
     match operation {
-        Operation::Join(_, combiner) => Kind::Join(known(combiner)),
+        Operation::Join(_, combiner) => Kind::Combining(known(combiner)),
         Operation::Select(_, _) => Kind::Selection,
     }
 }

@@ -22,7 +22,7 @@ use Rattle.many_way_rules.specs.Sheet.{Tariff, lend}
 use Rattle.many_way_rules.specs.Operations as operations
 use Rattle.many_way_rules.specs.Operations.{rule-of, merged}
 use Rattle.many_way_rules.specs.declared.Operation.{Operation}
-use Rattle.many_way_rules.specs.declared.Operation.the-variants.{Join as Joining, Select as Selecting}
+use Rattle.many_way_rules.specs.declared.Operation.the-variants.{Join, Select}
 use Rattle.many_way_rules.proofs.Condition3.{merged-right, merged-same}
 use Rattle.integer.proofs.Laws.{faithful-instants}
 use Rattle.multiway.proofs.Calls.{rows, rows-same}
@@ -33,7 +33,7 @@ use Rattle.tariff_file.specs.declared.Refusal.{Refusal}
 use Rattle.tariff_file.specs.declared.Refusal.the-variants.{TooLong, WrongMark, CutShort, LeftOver, UnknownOperation, TooManyLists, NotTwoLists, UnknownCombiner, TooManyRanges}
 use Rattle.tariff_file.proofs.Read.{five-or-six}
 use Rattle.tariff_file.specs.declared.Task.{Task}
-use Rattle.tariff_file.specs.declared.Task.the-variants.{Pair, Join, Select}
+use Rattle.tariff_file.specs.declared.Task.the-variants.{Pair, Merge, Choose}
 use Rattle.tariff_file.proofs.Columns.{kind-of}
 use Rattle.answer_text.specs.Answers as text
 use Rattle.answer_text.specs.Answers.{Row, row, pair, answer}
@@ -46,13 +46,13 @@ use Rattle.printed.proofs.Answers.{row-of, pair-of, place-value, merged
 -- the many-way operation that a task is, with its combiner
 abbrev pub many-way : Task → ℕ → Option Operation
 many-way (Pair p) c = none
-many-way (Join a) c = some (Joining a c)
-many-way (Select p a) c = some (Selecting p a)
+many-way (Merge a) c = some (Join a c)
+many-way (Choose p a) c = some (Select p a)
 
 abbrev pub two-way : Task → Option Pairing
 two-way (Pair p) = some p
-two-way (Join a) = none
-two-way (Select p a) = none
+two-way (Merge a) = none
+two-way (Choose p a) = none
 
 module _ {b : List ℕ} {h : Head} {ls : List (Tariff ℤ)} (a : Accepted b h ls) where
   performs : answered (read b) ≡ performed h (sound a .task) (lend ls)
@@ -68,8 +68,8 @@ module _ {b : List ℕ} {h : Head} {ls : List (Tariff ℤ)} (a : Accepted b h ls
       where
         go : (t : Task) → two-way t ≡ some p → t ≡ Pair p
         go (Pair q) e = let s : q ≡ p = cc in ap Pair s
-        go (Join a) e = absurd (let no : _≡_ {A = ℕ} 0 1 = cc in omega arith)
-        go (Select q a) e = absurd (let no : _≡_ {A = ℕ} 0 1 = cc in omega arith)
+        go (Merge a) e = absurd (let no : _≡_ {A = ℕ} 0 1 = cc in omega arith)
+        go (Choose q a) e = absurd (let no : _≡_ {A = ℕ} 0 1 = cc in omega arith)
 
     -- its pieces, with the values of their sides
     abbrev pub valued : List text.Pair
@@ -100,16 +100,16 @@ module _ {b : List ℕ} {h : Head} {ls : List (Tariff ℤ)} (a : Accepted b h ls
       where
         go : (t : Task) → many-way t (h .combiner) ≡ some o → kind-of t (h .combiner) ≡ operations.kind-of o
         go (Pair q) e = absurd (let no : _≡_ {A = ℕ} 0 1 = cc in omega arith)
-        go (Join a) e = let s : Joining a (h .combiner) ≡ o = cc in ap operations.kind-of s
-        go (Select q a) e = let s : Selecting q a ≡ o = cc in ap operations.kind-of s
+        go (Merge a) e = let s : Join a (h .combiner) ≡ o = cc in ap operations.kind-of s
+        go (Choose q a) e = let s : Select q a ≡ o = cc in ap operations.kind-of s
 
     as-many : performed h (sound a .task) (lend ls) ≡ merged-answer h o (lend ls)
     as-many = go (sound a .task) m
       where
         go : (t : Task) → many-way t (h .combiner) ≡ some o → performed h t (lend ls) ≡ merged-answer h o (lend ls)
         go (Pair q) e = absurd (let no : _≡_ {A = ℕ} 0 1 = cc in omega arith)
-        go (Join a) e = let s : Joining a (h .combiner) ≡ o = cc in ap (λ (o : Operation). merged-answer h o (lend ls)) s
-        go (Select q a) e = let s : Selecting q a ≡ o = cc in ap (λ (o : Operation). merged-answer h o (lend ls)) s
+        go (Merge a) e = let s : Join a (h .combiner) ≡ o = cc in ap (λ (o : Operation). merged-answer h o (lend ls)) s
+        go (Choose q a) e = let s : Select q a ≡ o = cc in ap (λ (o : Operation). merged-answer h o (lend ls)) s
 
     pub formed-many : AllWellFormed (instants .points) (lists instants (lend ls))
     formed-many = lists-formed (rw same-kind at (formed-lists a))
@@ -193,8 +193,8 @@ module _ (b : List ℕ) (y : Bytes b) (c n : ℕ) where
 
       go : (t : Task) → sound a .task ≡ t → ⊥
       go (Pair p) i = paired-no-refusal _ _ _ c n _ (sym (paired-answered h (lend ls) p (rw i at (judged a)) (rw i at (formed-lists a))) ∙ answers (Pair p) i)
-      go (Join d) i = merged-no-refusal _ _ _ c n _ (sym (merged-answered h (lend ls) (Joining d (h .combiner)) (rw i at (judged a)) (rw i at (formed-lists a))) ∙ answers (Join d) i)
-      go (Select p d) i = merged-no-refusal _ _ _ c n _ (sym (merged-answered h (lend ls) (Selecting p d) (rw i at (judged a)) (rw i at (formed-lists a))) ∙ answers (Select p d) i)
+      go (Merge d) i = merged-no-refusal _ _ _ c n _ (sym (merged-answered h (lend ls) (Join d (h .combiner)) (rw i at (judged a)) (rw i at (formed-lists a))) ∙ answers (Merge d) i)
+      go (Choose p d) i = merged-no-refusal _ _ _ c n _ (sym (merged-answered h (lend ls) (Select p d) (rw i at (judged a)) (rw i at (formed-lists a))) ∙ answers (Choose p d) i)
 
   pub no-code-4-or-8 : answered (read b) ≡ text.refused c n → (c ≢ 4) × (c ≢ 8)
   no-code-4-or-8 q = go (read b) refl q

@@ -25,13 +25,13 @@ use Rattle.many_way_rules.specs.Operations as operations
 use Rattle.many_way_rules.specs.Operations.{merged}
 use Rattle.many_way_rules.specs.Outcomes.{merging}
 use Rattle.many_way_rules.specs.declared.Operation.{Operation}
-use Rattle.many_way_rules.specs.declared.Operation.the-variants.{Join as Joining, Select as Selecting}
+use Rattle.many_way_rules.specs.declared.Operation.the-variants.{Join, Select}
 use Rattle.tariff_file.specs.Layout.{Bytes}
 use Rattle.tariff_file.specs.File as file
 use Rattle.tariff_file.specs.File.{Head, Reading, accepted, formed, checked, records-of, read, Sound}
 use Rattle.tariff_file.specs.declared.Refusal.{Refusal}
 use Rattle.tariff_file.specs.declared.Task.{Task}
-use Rattle.tariff_file.specs.declared.Task.the-variants.{Pair, Join, Select}
+use Rattle.tariff_file.specs.declared.Task.the-variants.{Pair, Merge, Choose}
 use Rattle.tariff_file.proofs.File.{records-accepted}
 use Rattle.tariff_file.proofs.Read.{read-refused, five-or-six}
 use Rattle.tariff_file.proofs.Columns.{kind-of, file-judged}
@@ -72,8 +72,8 @@ module _ (a : Answered) (i : ℕ) (is : (a ≡ Backward i) ⊎ (a ≡ Overlap i)
 
     performed-fault : (t : Task) → judge instants (kind-of t (h .combiner)) l ≡ Refused a → performed h t l ≡ text.refused (code-of a) (number-of a)
     performed-fault (Pair p) j = paired-fault p j
-    performed-fault (Join d) j = merged-fault (Joining d (h .combiner)) j
-    performed-fault (Select p d) j = merged-fault (Selecting p d) j
+    performed-fault (Merge d) j = merged-fault (Join d (h .combiner)) j
+    performed-fault (Choose p d) j = merged-fault (Select p d) j
 
 module _ (b : List ℕ) (h : Head) (ls : List (Tariff ℤ)) (y : Bytes b) (e : records-of b ≡ accepted h ls) where
   abbrev pub held : Sound h ls

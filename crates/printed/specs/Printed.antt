@@ -16,11 +16,11 @@ use Rattle.rules.specs.declared.Pairing.{Pairing}
 use Rattle.many_way_rules.specs.Sheet.{lend}
 use Rattle.many_way_rules.specs.Outcomes.{merging}
 use Rattle.many_way_rules.specs.declared.Operation.{Operation}
-use Rattle.many_way_rules.specs.declared.Operation.the-variants.{Join as Joining, Select as Selecting}
+use Rattle.many_way_rules.specs.declared.Operation.the-variants.{Join, Select}
 use Rattle.tariff_file.specs.File as file
 use Rattle.tariff_file.specs.File.{Head, Reading, ill-formed, accepted, task-of, read}
 use Rattle.tariff_file.specs.declared.Task.{Task}
-use Rattle.tariff_file.specs.declared.Task.the-variants.{Pair, Join, Select}
+use Rattle.tariff_file.specs.declared.Task.the-variants.{Pair, Merge, Choose}
 use Rattle.answer_text.specs.Answers.{Answer, merged, paired, refused, rows, pairs, answer}
 
 -- columns with room for the most pieces that the ranges of a file give
@@ -53,8 +53,8 @@ module _ (h : Head) where
 
   abbrev pub performed : Task → Lent ℤ → Answer
   performed (Pair p) l = paired-answer p l
-  performed (Join a) l = merged-answer (Joining a (h .combiner)) l
-  performed (Select p a) l = merged-answer (Selecting p a) l
+  performed (Merge a) l = merged-answer (Join a (h .combiner)) l
+  performed (Choose p a) l = merged-answer (Select p a) l
 
   -- a file that is accepted has a known operation
   abbrev pub asked : Option Task → Lent ℤ → Answer

@@ -19,7 +19,7 @@ use Rattle.rules.specs.declared.Answer.the-variants.{Done, TooManyLists,
 use Rattle.rules.specs.declared.Judgement.{Judgement}
 use Rattle.rules.specs.declared.Judgement.the-variants.{Sound, Refused}
 use Rattle.rules.specs.declared.Kind.{Kind}
-use Rattle.rules.specs.declared.Kind.the-variants.{Listing, TwoWay, Join, Selection}
+use Rattle.rules.specs.declared.Kind.the-variants.{Listing, TwoWay, Combining, Selection}
 use Rattle.rules.proofs.Faults.{Tells, tells-true, tells-lt, tells-le, tells-eq, tells-not, tells-both, tells-as, tells-holds, tells-not-holds, Names, backward, overlap, names-fault, Fault, Finds, sound, refused, fault-only, finds-lists, not-refused, all-clear, formed-values, all-formed}
 
 module _ {C : Type 0} (needed room : ℕ) (before after : C) where
@@ -226,15 +226,15 @@ told-apart test k k' p q = (λ h. absurd (false≢true (sym p ∙ h)), λ e. ap 
 pub two-way-exactly : (k : Kind) → (two-way k ≡ true) ↔ (k ≡ TwoWay)
 two-way-exactly Listing = told-apart two-way Listing TwoWay refl refl
 two-way-exactly TwoWay = (λ q. refl, λ q. refl)
-two-way-exactly (Join known) = told-apart two-way (Join known) TwoWay refl refl
+two-way-exactly (Combining known) = told-apart two-way (Combining known) TwoWay refl refl
 two-way-exactly Selection = told-apart two-way Selection TwoWay refl refl
 
-pub unknown-exactly : (k : Kind) → (unknown-combiner k ≡ true) ↔ (k ≡ Join false)
-unknown-exactly Listing = told-apart unknown-combiner Listing (Join false) refl refl
-unknown-exactly TwoWay = told-apart unknown-combiner TwoWay (Join false) refl refl
-unknown-exactly (Join true) = told-apart unknown-combiner (Join true) (Join false) refl refl
-unknown-exactly (Join false) = (λ q. refl, λ q. refl)
-unknown-exactly Selection = told-apart unknown-combiner Selection (Join false) refl refl
+pub unknown-exactly : (k : Kind) → (unknown-combiner k ≡ true) ↔ (k ≡ Combining false)
+unknown-exactly Listing = told-apart unknown-combiner Listing (Combining false) refl refl
+unknown-exactly TwoWay = told-apart unknown-combiner TwoWay (Combining false) refl refl
+unknown-exactly (Combining true) = told-apart unknown-combiner (Combining true) (Combining false) refl refl
+unknown-exactly (Combining false) = (λ q. refl, λ q. refl)
+unknown-exactly Selection = told-apart unknown-combiner Selection (Combining false) refl refl
 
 -- lists that the form checker passed are well formed with their values too
 pub lists-formed : {P : Type 0} {w : Width P} {k : Kind} {l : Lent P} → Formed w k l → AllWellFormed (w .points) (lists w l)

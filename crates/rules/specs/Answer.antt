@@ -12,7 +12,7 @@ use Rattle.rules.specs.declared.Answer.the-variants.{Done, TooManyLists,
 use Rattle.rules.specs.declared.Judgement.{Judgement}
 use Rattle.rules.specs.declared.Judgement.the-variants.{Sound, Refused}
 use Rattle.rules.specs.declared.Kind.{Kind}
-use Rattle.rules.specs.declared.Kind.the-variants.{Listing, TwoWay, Join, Selection}
+use Rattle.rules.specs.declared.Kind.the-variants.{Listing, TwoWay, Combining, Selection}
 
 abbrev pub code-of : Answer → ℕ
 code-of (Done n) = 0
@@ -66,13 +66,13 @@ judge-lists (l ∷ ls) = or-else (judge-list none l) (judge-lists ls)
 abbrev pub two-way : Kind → Bool
 two-way Listing = false
 two-way TwoWay = true
-two-way (Join known) = false
+two-way (Combining known) = false
 two-way Selection = false
 
 abbrev pub unknown-combiner : Kind → Bool
 unknown-combiner Listing = false
 unknown-combiner TwoWay = false
-unknown-combiner (Join known) = not known
+unknown-combiner (Combining known) = not known
 unknown-combiner Selection = false
 
 module _ {P : Type 0} where

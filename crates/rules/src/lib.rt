@@ -35,8 +35,8 @@ pub enum Judgement {
 pub enum Kind {
     Listing,
     TwoWay,
-    // Whether its combiner is known.
-    Join(bool),
+    // A many-way join: whether its combiner is known.
+    Combining(bool),
     Selection,
 }
 

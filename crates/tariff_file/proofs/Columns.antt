@@ -12,13 +12,13 @@ use borrow.Author.Tests.{le-ltb, eq-eqb, eqb-true}
 use Rattle.rules.specs.Lists.{Lent, instants, tracks, total}
 use Rattle.rules.specs.Answer.{refuse, two-way, unknown-combiner, agree, judge, judge-lists}
 use Rattle.rules.specs.declared.Kind.{Kind}
-use Rattle.rules.specs.declared.Kind.the-variants.{TwoWay, Join as JoinKind, Selection}
+use Rattle.rules.specs.declared.Kind.the-variants.{TwoWay, Combining, Selection}
 use Rattle.many_way_rules.specs.Combiners.{known}
 use Rattle.many_way_rules.specs.Sheet.{Tariff, flat, lend}
 use Rattle.rules.specs.declared.Answer.the-variants.{TooManyLists, NotTwoLists, TooManyRanges, ColumnsDiffer, UnknownCombiner}
 use Rattle.tariff_file.specs.File.{lists-right, combiner-right, Head, Sound}
 use Rattle.tariff_file.specs.declared.Task.{Task}
-use Rattle.tariff_file.specs.declared.Task.the-variants.{Pair, Join, Select}
+use Rattle.tariff_file.specs.declared.Task.the-variants.{Pair, Merge, Choose}
 
 -- the lists back from their columns
 abbrev zipped : List ℤ → List ℤ → List ℤ → Tariff ℤ
@@ -52,20 +52,20 @@ total-flat (l ∷ ls) = omega (arith, length-append l (flat ls), total-flat ls)
 -- as the library tells operations apart
 abbrev pub kind-of : Task → ℕ → Kind
 kind-of (Pair p) c = TwoWay
-kind-of (Join a) c = JoinKind (known c)
-kind-of (Select p a) c = Selection
+kind-of (Merge a) c = Combining (known c)
+kind-of (Choose p a) c = Selection
 
 -- in a file 1, 2, 3, 4 and 7 are judged by the file's own rules
 module _ (h : Head) (ls : List (Tariff ℤ)) (s : Sound h ls) where
   two-lists : (k : Task) (c : ℕ) → lists-right k (length ls) ≡ true → (two-way (kind-of k c) && not (eqb (length (map length ls)) 2)) ≡ false
   two-lists (Pair p) c e = ap not (eq-eqb (length (map length ls)) 2 (length-map ls length ∙ eqb-true (length ls) 2 e))
-  two-lists (Join a) c e = refl
-  two-lists (Select p a) c e = refl
+  two-lists (Merge a) c e = refl
+  two-lists (Choose p a) c e = refl
 
   combined : (k : Task) (c : ℕ) → combiner-right k c ≡ true → unknown-combiner (kind-of k c) ≡ false
   combined (Pair p) c e = refl
-  combined (Join a) c e = ap not e
-  combined (Select p a) c e = refl
+  combined (Merge a) c e = ap not e
+  combined (Choose p a) c e = refl
 
   pub file-judged : judge instants (kind-of (s .task) (h .combiner)) (lend ls) ≡ judge-lists (tracks instants (lend ls))
   unfolding judge

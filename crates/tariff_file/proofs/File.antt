@@ -18,7 +18,7 @@ use Rattle.tariff_file.specs.File.{head-layout, list-layout, range-layou
 use Rattle.tariff_file.specs.declared.Refusal.{Refusal}
 use Rattle.tariff_file.specs.declared.Refusal.the-variants.{TooLong, CutShort, LeftOver, TooManyLists, NotTwoLists, UnknownCombiner, TooManyRanges}
 use Rattle.tariff_file.specs.declared.Task.{Task}
-use Rattle.tariff_file.specs.declared.Task.the-variants.{Pair, Join, Select}
+use Rattle.tariff_file.specs.declared.Task.the-variants.{Pair, Merge, Choose}
 use Rattle.tariff_file.proofs.Sequence.{Reads, Format, only-weaken, reformat, reads-then, only-then, reads-last, only-last, many-format, AllOk, flat-append, bytes-both}
 use Rattle.tariff_file.proofs.Record.{values-long, record-is-bytes, one-format, Fine, single}
 
@@ -130,13 +130,13 @@ operation-below (suc o) k e = omega (arith, known-below operations o k e)
 
 combiner-below : (k : Task) (c : ℕ) → combiner-right k c ≡ true → c < 256
 combiner-below (Pair p) c e = omega (arith, eqb-true c 0 e)
-combiner-below (Join a) c e = go (ltb 0 c) (leb c 5) refl e
+combiner-below (Merge a) c e = go (ltb 0 c) (leb c 5) refl e
   where
     go : (s t : Bool) → leb c 5 ≡ t → (s && t) ≡ true → c < 256
     go true true q e = omega (arith, leb-true c 5 q)
     go true false q e = absurd (let no : _≡_ {A = ℕ} 0 1 = cc in omega arith)
     go false t q e = absurd (let no : _≡_ {A = ℕ} 0 1 = cc in omega arith)
-combiner-below (Select p a) c e = omega (arith, eqb-true c 0 e)
+combiner-below (Choose p a) c e = omega (arith, eqb-true c 0 e)
 
 module _ (h : Head) (ls : List (Tariff ℤ)) where
   pub sound-head : Sound h ls → Fine head-layout head-fault (head-held h (length ls))

@@ -11,7 +11,7 @@ use Rattle.many_way_rules.specs.Sheet.{Typed, Tariff, flat, lend}
 use Rattle.many_way_rules.specs.declared.Admission.the-variants.{Every}
 use Rattle.tariff_file.specs.Layout.{Bytes, half}
 use Rattle.tariff_file.specs.File.{Head, written, accepted, read, AllRanges, AllLists, Sound}
-use Rattle.tariff_file.specs.declared.Task.the-variants.{Join}
+use Rattle.tariff_file.specs.declared.Task.the-variants.{Merge}
 use Rattle.tariff_file.proofs.File.{written-long, written-bytes}
 use Rattle.tariff_file.proofs.Read.{Ordered, read-written}
 
@@ -104,7 +104,7 @@ longest-sound : Sound longest-head (runs 128 0 16)
 unfolding longest-head
 longest-sound =
     record {
-      task = Join Every;
+      task = Merge Every;
       operation-known = refl;
       few-lists = omega (arith, runs-long 128 16 0);
       right-lists = refl;

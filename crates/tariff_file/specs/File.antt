@@ -22,7 +22,7 @@ use Rattle.tariff_file.specs.Reader.{Parsed, stop, got, Reader, Fault, _
 use Rattle.tariff_file.specs.declared.Refusal.{Refusal}
 use Rattle.tariff_file.specs.declared.Refusal.the-variants.{TooLong, WrongMark, CutShort, LeftOver, UnknownOperation, TooManyLists, NotTwoLists, UnknownCombiner, TooManyRanges}
 use Rattle.tariff_file.specs.declared.Task.{Task}
-use Rattle.tariff_file.specs.declared.Task.the-variants.{Pair, Join, Select}
+use Rattle.tariff_file.specs.declared.Task.the-variants.{Pair, Merge, Choose}
 
 -- 4A 48, operation u8, combiner u8, list count u16
 abbrev pub head-layout : Layout
@@ -38,7 +38,7 @@ range-layout = record { first = 0x4A; second = 0x52; fields = signed 8 ∷ signe
 
 -- the operations from 1 on: two-way inner, left, full; inner, full; union, symmetric difference
 abbrev pub operations : List Task
-operations = Pair Inner ∷ Pair Left ∷ Pair Full ∷ Join Every ∷ Join Any ∷ Select Highest Any ∷ Select Highest Odd ∷ []
+operations = Pair Inner ∷ Pair Left ∷ Pair Full ∷ Merge Every ∷ Merge Any ∷ Choose Highest Any ∷ Choose Highest Odd ∷ []
 
 abbrev pub task-of : ℕ → Option Task
 task-of zero = none
@@ -47,14 +47,14 @@ task-of (suc n) = getElem? operations n
 -- a two-way operation asks for two lists
 abbrev pub lists-right : Task → ℕ → Bool
 lists-right (Pair p) n = eqb n 2
-lists-right (Join a) n = true
-lists-right (Select p a) n = true
+lists-right (Merge a) n = true
+lists-right (Choose p a) n = true
 
 -- a join asks for a combiner, the others for 0 in its place
 abbrev pub combiner-right : Task → ℕ → Bool
 combiner-right (Pair p) c = eqb c 0
-combiner-right (Join a) c = known c
-combiner-right (Select p a) c = eqb c 0
+combiner-right (Merge a) c = known c
+combiner-right (Choose p a) c = eqb c 0
 
 pub record Head : Type 0 where
   pub operation : ℕ

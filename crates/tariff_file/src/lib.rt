@@ -9,8 +9,8 @@ ghost use Rattle.tariff_file.specs.File.{code-of, number-of};
 // What an operation does with the lists: a two-way join, a join, whose combiner the head gives, or a selection.
 pub enum Task {
     Pair(Pairing),
-    Join(Admission),
-    Select(Pick, Admission),
+    Merge(Admission),
+    Choose(Pick, Admission),
 }
 
 // Why a tariff file is refused. The number is the offset of the record at fault, or of the first byte left over; of one too long it is
