@@ -1,7 +1,7 @@
 -- What is promised of the active lists. It speaks of the set of them alone: P says for which sets a value stands at
 -- entry, Q at exit. How a value stands for a set is said in `Kept`, of which neither this file nor any caller knows
 -- more: another way to keep the set changes neither. Assumes nothing.
-use Prim.Native.Nat.{ℕ, zero, suc, _+_, _<_, _≤_}
+use Prim.Native.Nat.{ℕ, zero, suc, _+_, _%_, _<_, _≤_}
 use mathlib.Core.Path.{_≡_}
 use mathlib.Core.Bool.{Bool, true, false, cond}
 use mathlib.Core.Option.{Option, none}
@@ -80,6 +80,9 @@ Deactivates P Q list = (f : Set) → P f → f list ≡ true → Q (without f li
 abbrev pub FindsHighest : (Set → Type 0) → (Set → Type 0) → HighestActive → Type 0
 FindsHighest P Q r = (f : Set) → P f → Q f × IsHighest f r
 
--- r is how many lists are active
+-- r is how many lists are active, or whether that is odd
 abbrev pub Numbers : (Set → Type 0) → ℕ → Type 0
 Numbers P r = (f : Set) → P f → r ≡ number f
+
+abbrev pub TellsOdd : (Set → Type 0) → Bool → Type 0
+TellsOdd P r = (f : Set) → P f → r ≡ eqb (number f % 2) 1

@@ -7,7 +7,7 @@ ghost use mathlib.Core.Bool.{true, false};
 ghost use lib.ListN.{length};
 ghost use Rattle.integer.specs.Order.{Less};
 ghost use Rattle.heap.specs.Holes.{Chosen};
-ghost use Rattle.active_lists.specs.Active.{nobody, Some, Known, Activates, Deactivates, FindsHighest, Numbers};
+ghost use Rattle.active_lists.specs.Active.{nobody, Some, Known, Activates, Deactivates, FindsHighest, Numbers, TellsOdd};
 ghost use Rattle.active_lists.specs.Kept.{rank, places, Stands, stands, stands-before, stands-after, Rose, Sank, Stale, Dropped};
 
 // The heap at 0 to 15, a mark for each list from MARKS on, the heap's length and the number of active lists.
@@ -161,4 +161,11 @@ pub fn how_many(active: &Active) -> usize
     ensures { λ r. ⌜ Numbers (stands-before active) r ⌝ }
 {
     wide(active[COUNT])
+}
+
+// Whether the number of active lists is odd.
+pub fn odd(active: &Active) -> bool
+    ensures { λ r. ⌜ TellsOdd (stands-before active) r ⌝ }
+{
+    active[COUNT] % 2 == 1
 }

@@ -1,5 +1,5 @@
-// Turns lists on and off by scripts of letters, a to p for the sixteen lists, and after each letter writes the highest active list, and how
-// many are active, as 0 to 9 and A to G: a line of each for a script.
+// Turns lists on and off by scripts of letters, a to p for the sixteen lists, and after each letter writes the highest active list, how many are active,
+// as 0 to 9 and A to G, and whether that is odd: a line of each for a script.
 ghost use Prim.Native.Nat.{_<_};
 ghost use mathlib.Core.Path.{_≡_};
 ghost use mathlib.Core.Bool.{false};
@@ -69,10 +69,12 @@ fn play(script: &[u8; 32]) {
     let mut on: [bool; 16] = [false; 16];
     let mut tops: [u8; 33] = [b'\n'; 33];
     let mut numbers: [u8; 33] = [b'\n'; 33];
+    let mut odds: [u8; 33] = [b'\n'; 33];
     let mut i: usize = 0;
     while i < 32 {
         turn(&mut active, &mut on, list_of(script[i]));
         numbers[i] = digit(active_lists::how_many(&active));
+        odds[i] = digit(active_lists::odd(&active) as usize);
         tops[i] = top(&mut active);
         i += 1;
     }
@@ -80,6 +82,7 @@ fn play(script: &[u8; 32]) {
     io::write_all(1, b"\n");
     say(&tops);
     say(&numbers);
+    say(&odds);
 }
 
 fn main() {

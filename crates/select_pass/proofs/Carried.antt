@@ -14,8 +14,8 @@ use Rattle.rules.specs.Piece.{present, there}
 use Rattle.many_way_rules.specs.Selections.{admitted, picked}
 use Rattle.many_way_rules.specs.declared.Admission.{Admission}
 use Rattle.many_way_rules.specs.declared.Pick.the-variants.{Highest}
-use Rattle.many_way_rules.proofs.Selections.{highest-none, highest-exactly}
-use Rattle.active_lists.specs.Active.{Set, with, without, has, HighestIn, IsHighest, Known, Numbers}
+use Rattle.many_way_rules.proofs.Selections.{by-number, admitted-number, highest-none, highest-exactly}
+use Rattle.active_lists.specs.Active.{Set, with, without, has, number, HighestIn, IsHighest, Known, Numbers}
 use Rattle.active_lists.specs.Kept.{Active, Stands}
 use Rattle.active_lists.specs.declared.HighestActive.{HighestActive}
 use Rattle.active_lists.specs.declared.HighestActive.the-variants.{List as Top, Nothing}
@@ -40,6 +40,10 @@ top-is f r h t = rw h at t
 
 pub top-none : (f : Set) (r : HighestActive) → r ≡ Nothing → IsHighest f r → IsHighest f Nothing
 top-none f r h t = rw h at t
+
+-- a point is admitted by how many lists are active
+pub by-active : (a : Admission) (act : Held) → length act ≤ 16 → by-number a (length act) (number (has act)) ≡ admitted a act
+by-active a act h = rw (number-present act h) (admitted-number a act)
 
 module _ (a : Admission) (act : Held) {b : Bool} (e : b ≡ admitted a act) where
   pub not-kept : b ≡ false → none ≡ chosen a act

@@ -7,6 +7,7 @@ use active_lists::activate;
 use active_lists::deactivate;
 use active_lists::highest;
 use active_lists::how_many;
+use active_lists::odd;
 use many_way_rules::Admission;
 use multiway_pass::Pending;
 use multiway_pass::Piece;
@@ -60,6 +61,9 @@ pub fn stretch_before(event: Step, stretch_start: StretchStart) -> StretchBefore
 fn keeps(admission: Admission, lists: usize, active: &Active) -> bool
     ensures { λ r. ⌜ Keeps admission lists (kept active) r ⌝ }
 {
+    if let Admission::Odd = admission {
+        return odd(active);
+    }
     admits(admission, lists, how_many(active))
 }
 

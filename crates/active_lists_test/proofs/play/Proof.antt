@@ -11,10 +11,10 @@ use Rattle.active_lists_test.proofs.play.Statement.{statement}
 use Rattle.active_lists_test.proofs.play.Tie as tie
 
 abbrev Inv-loop : tie.InvT-loop
-Inv-loop script active₀ on₀ tops₀ numbers₀ i₀ t8 active on tops numbers i = Stands active (λ j. getD on j false) × (length on ≡ 16) × (i ≤ 32)
+Inv-loop script active₀ on₀ tops₀ numbers₀ odds₀ i₀ t8 active on tops numbers odds i = Stands active (λ j. getD on j false) × (length on ≡ 16) × (i ≤ 32)
 
 abbrev μ-loop : tie.MeasureT-loop
-μ-loop script active₀ on₀ tops₀ numbers₀ i₀ t8 active on tops numbers i = 32 - i
+μ-loop script active₀ on₀ tops₀ numbers₀ odds₀ i₀ t8 active on tops numbers odds i = 32 - i
 
 pub play-spec : {M : Type 1} → statement M
 play-spec =
@@ -32,13 +32,18 @@ play-spec =
     (λ c. search needs)
     (λ c κs. search needs)
     (λ c. search needs)
+    (λ c κs. search needs)
+    (λ c. search needs)
+    (λ c κs. search needs)
+    (λ c. search needs)
     (λ c. search needs)
     (λ c. search needs)
     (λ c.
-    let t : tie.After-turn Inv-loop μ-loop = search in
-    (c .top .ensures _ (t .turn .ensures .1), t .turn .ensures .0, omega arith))
+    let t = c .before .before .before .before .before .before .before .before .turn in
+    (c .top .ensures _ (t .ensures .1), t .ensures .0, omega arith))
     (λ c κs. search needs)
     (λ c. search needs)
+    (λ c κs. search needs)
     (λ c κs. search needs)
     (λ c κs. search needs)
     (λ c κs. search needs)
