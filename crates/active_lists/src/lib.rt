@@ -1,6 +1,8 @@
 // Which of at most sixteen lists are active: the highest of them, and how many. A caller sees the set alone (specs/Active).
 // It is kept in a heap of lists, the highest on top; a list is in it at most once, and one that ended stays in it until it
 // comes to the top, where it is dropped (specs/Kept).
+
+#![tactic(auto)]
 ghost use Rattle.std.specs.Prelude.{◌+◌, ◌*◌, ◌<◌, ◌≤◌, ◌≡◌, true, false, length};
 ghost use Rattle.integer.specs.Order.{Less};
 ghost use Rattle.heap.specs.Holes.{Chosen};

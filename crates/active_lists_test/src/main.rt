@@ -1,5 +1,7 @@
 // Turns lists on and off by scripts of letters, a to p for the sixteen lists, and after each letter writes the highest active list, how many are active,
 // as 0 to 9 and A to G, and whether that is odd: a line of each for a script.
+
+#![tactic(auto)]
 ghost use Rattle.std.specs.Prelude.{◌<◌, ◌≡◌, false, length, get_or};
 ghost use Rattle.active_lists.specs.Active.{Set, Some};
 ghost use Rattle.active_lists.specs.Kept.{stands, stands_before, stands_after};

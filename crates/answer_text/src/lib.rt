@@ -1,1 +1,3 @@
 // The text of an answer: numbers in decimal, lines, rows, and a text in a lent buffer.
+
+#![tactic(auto)]

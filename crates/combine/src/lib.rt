@@ -1,5 +1,7 @@
 // The numbered combiners over the values of the lists present.
 
+#![tactic(auto)]
+
 ghost use Rattle.std.specs.Prelude.{◌≡◌, ◌≤◌, min, ℤ, cond, List, [], ◌∷◌};
 ghost use Rattle.std.proofs.Math.Option.{some, none};
 ghost use Rattle.many_way_rules.specs.Combiners as rules;

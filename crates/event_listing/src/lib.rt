@@ -1,5 +1,7 @@
 // The event listing: every start and end of the lists' ranges, in the order of the sweep; here an event's row, and the answer.
 
+#![tactic(auto)]
+
 ghost use Rattle.std.specs.Prelude.{◌*◌, ◌^◌, ◌<◌, min, ◌≡◌};
 ghost use Rattle.rules.specs.Sweep.{starts, ends};
 ghost use Rattle.event_listing.specs.Listing.{RowOf, answer_for};

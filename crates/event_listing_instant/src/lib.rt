@@ -1,5 +1,7 @@
 // The event listing over lent columns.
 
+#![tactic(auto)]
+
 ghost use Rattle.std.specs.Prelude.{◌≡◌};
 ghost use Rattle.rules.specs.Lists.{instants, lent, given};
 ghost use Rattle.rules.specs.Listed.{output, before, after};

@@ -1,5 +1,7 @@
 // The head of a tariff file: what its operation does, and what it is refused for.
 
+#![tactic(auto)]
+
 ghost use Rattle.std.specs.Prelude.{◌≡◌};
 ghost use Rattle.tariff_file.specs.File.{lists_right, combiner_right};
 ghost use Rattle.file_head.specs.Heads.{Named, Judges, Opens};

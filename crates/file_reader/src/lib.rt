@@ -1,5 +1,7 @@
 // A tariff file, read into columns.
 
+#![tactic(auto)]
+
 ghost use Rattle.std.specs.Prelude.{◌≤◌, length};
 ghost use Rattle.rules.specs.Lists.{lent};
 ghost use Rattle.rules.specs.Merged.{output, before, after, room};

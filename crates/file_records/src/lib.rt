@@ -1,5 +1,7 @@
 // Records of a tariff file at their places: numbers, marks, and ranges, which go into columns.
 
+#![tactic(auto)]
+
 ghost use Rattle.std.specs.Prelude.{ℕ, ◌+◌, ◌^◌, ◌≤◌, ◌<◌, ◌≡◌, [], ◌∷◌, length, take, drop};
 ghost use Rattle.rules.specs.Merged.{output, before, after, room};
 ghost use Rattle.tariff_file.specs.Layout.{number, integer};

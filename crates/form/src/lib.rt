@@ -1,5 +1,7 @@
 // The form checker, but for the columns: what is refused by the shape of what is lent, and by one range.
 
+#![tactic(auto)]
+
 ghost use Rattle.std.specs.Prelude.{◌≡◌, ◌≤◌, length};
 ghost use Rattle.rules.specs.Lists.{total};
 ghost use Rattle.rules.specs.Answer.{two_way, unknown_combiner, judge_range};

@@ -1,5 +1,7 @@
 // The form checker over lent columns: what is refused before an operation runs.
 
+#![tactic(auto)]
+
 ghost use Rattle.std.specs.Prelude.{◌≤◌};
 ghost use Rattle.rules.specs.Lists.{seats, total, given};
 ghost use Rattle.form.specs.Shape.{Long, one_list, end_to_end, Looked, Judged};

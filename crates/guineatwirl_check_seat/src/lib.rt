@@ -1,5 +1,7 @@
 // One list of tariff structs of seats, judged, as a C function: a code comes back, and its number is written.
 
+#![tactic(auto)]
+
 ghost use Rattle.std.proofs.Math.Option.{none};
 ghost use Rattle.rules.specs.Answer.{judge_list};
 ghost use Rattle.tariffs.specs.Told.{Told};

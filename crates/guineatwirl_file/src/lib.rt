@@ -1,5 +1,7 @@
 // The tariff file as a C function: file bytes in, the printed text into a lent buffer, its length back.
 
+#![tactic(auto)]
+
 ghost use Rattle.std.specs.Prelude.{◌≡◌};
 ghost use Rattle.answer_text.specs.Buffer.{leaves, print};
 ghost use Rattle.printed.specs.Printed.{printed};

@@ -1,5 +1,7 @@
 // The many-way joins and selections over lent columns of seats as C functions: an answer's code comes back, and its number is written.
 
+#![tactic(auto)]
+
 ghost use Rattle.rules.specs.Lists.{seats, given};
 ghost use Rattle.rules.specs.Said.{Said};
 ghost use Rattle.rules.specs.Merged as merged;

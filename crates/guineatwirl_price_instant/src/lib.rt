@@ -1,5 +1,7 @@
 // The price at a point of lent columns of instants, as a C function.
 
+#![tactic(auto)]
+
 ghost use Rattle.rules.specs.Lists.{instants};
 ghost use Rattle.rules.specs.Merged as merged;
 ghost use Rattle.price.specs.Reading.{Told, price_at};

@@ -1,5 +1,7 @@
 // The prices at many points of lent columns of seats, as a C function.
 
+#![tactic(auto)]
+
 ghost use Rattle.rules.specs.Lists.{seats};
 ghost use Rattle.rules.specs.Said.{Said};
 ghost use Rattle.rules.specs.Merged as merged;

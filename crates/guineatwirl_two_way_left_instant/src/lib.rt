@@ -1,5 +1,7 @@
 // The two-way left join over lent columns of instants as a C function: an answer's code comes back, and its number is written.
 
+#![tactic(auto)]
+
 ghost use Rattle.rules.specs.Lists.{instants, given};
 ghost use Rattle.rules.specs.Said.{Said};
 ghost use Rattle.rules.specs.Paired as paired;

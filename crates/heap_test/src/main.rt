@@ -1,5 +1,7 @@
 // Fills a heap in several orders and writes the lists of its entries as they leave it, a letter each: a to p, and A to P for
 // those that took the place of a top.
+
+#![tactic(auto)]
 ghost use Rattle.std.specs.Prelude.{◌<◌};
 ghost use Rattle.heap.specs.Heap.{entries, entries_after, Whole, Heap};
 

@@ -1,5 +1,7 @@
 // A tariff file joined and printed: file bytes in, the text into a lent buffer, its length back.
 
+#![tactic(auto)]
+
 ghost use Rattle.std.specs.Prelude.{◌≡◌};
 ghost use Rattle.io.specs.Counts.{IsPrefixLen};
 ghost use Rattle.answer_text.specs.Buffer.{leaves, print};

@@ -1,5 +1,7 @@
 // The join printer: a tariff file from standard input, its printed text to standard output.
 
+#![tactic(auto)]
+
 use join_file::join_file;
 
 // A byte more than the longest file, so that a longer one is told.

@@ -1,6 +1,8 @@
 // A join's sweep, after JoinSweep of the Rust, but for its columns and arrays: which lists begin and end with a stretch, where it
 // begins and how far it reaches.
 
+#![tactic(auto)]
+
 ghost use Rattle.std.specs.Prelude.{◌+◌, ◌≤◌};
 ghost use Rattle.join_sweep.specs.Stretches.{after, Begun, BegunAfter, EndsWith, StartsWith, Ahead, Reached};
 

@@ -1,5 +1,7 @@
 // A join's sweep over lent columns: the stretches on which the same lists are active with the same values, one after the other.
 
+#![tactic(auto)]
+
 ghost use Rattle.std.specs.Prelude.{◌≤◌, List};
 ghost use Rattle.rules.specs.Piece as rules;
 ghost use Rattle.rules.specs.Lists.{seats, lists, lent, given};

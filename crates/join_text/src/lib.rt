@@ -1,5 +1,7 @@
 // Lists of a tariff file joined and printed: lent lists in, the text of the answer into a lent buffer, its length back.
 
+#![tactic(auto)]
+
 ghost use Rattle.std.specs.Prelude.{◌≡◌};
 ghost use Rattle.rules.specs.Lists.{given};
 ghost use Rattle.answer_text.specs.Answers.{answer};

@@ -1,5 +1,7 @@
 // Many-way joins and selections as data: which points an operation admits, and whose value it gives them.
 
+#![tactic(auto)]
+
 ghost use Rattle.std.specs.Prelude.{◌≡◌};
 ghost use Rattle.many_way_rules.specs.Combiners as rules;
 

@@ -1,1 +1,3 @@
 // The many-way joins and selections: what holds of two calls of any of them.
+
+#![tactic(auto)]

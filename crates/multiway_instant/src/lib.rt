@@ -1,5 +1,7 @@
 // The many-way joins and selections of instants: inner and full join, union and symmetric difference.
 
+#![tactic(auto)]
+
 ghost use Rattle.std.specs.Prelude.{◌≡◌};
 ghost use Rattle.rules.specs.Lists.{instants, given};
 ghost use Rattle.rules.specs.Answer.{leaves};

@@ -1,5 +1,7 @@
 // Many-way joins and selections, but for their columns: how they are judged, what they say of no lists, and how much room there is.
 
+#![tactic(auto)]
+
 ghost use Rattle.std.specs.Prelude.{min, ◌≡◌, []};
 ghost use Rattle.many_way_rules.specs.Operations.{kind_of, rule_of};
 ghost use Rattle.multiway_pass.specs.Pieces.{ruling_of};

@@ -1,5 +1,7 @@
 // Many-way joins and selections over lent columns, as one operation: refusals, zero lists, room, and the passes over the stretches.
 
+#![tactic(auto)]
+
 ghost use Rattle.std.specs.Prelude.{◌≡◌};
 ghost use Rattle.rules.specs.Lists.{seats, lists, lent, given};
 ghost use Rattle.rules.specs.Answer.{leaves};

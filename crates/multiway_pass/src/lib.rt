@@ -1,6 +1,8 @@
 // What a many-way operation does with a stretch, in keys: what a join says of it, and a piece that is merged into the one before or is
 // not.
 
+#![tactic(auto)]
+
 ghost use Rattle.std.specs.Prelude.{◌<◌, ◌≡◌, List, ℤ};
 ghost use Rattle.std.proofs.Math.Option.{Option};
 ghost use Rattle.rules.specs.Piece.{Within};

@@ -1,5 +1,7 @@
 // One pass over the stretches of the lists: their pieces are counted, and written where that is asked.
 
+#![tactic(auto)]
+
 ghost use Rattle.rules.specs.Lists.{seats, lists, lent, given};
 ghost use Rattle.rules.specs.Merged.{output, before, after, room, lay};
 ghost use Rattle.many_way_rules.specs.Operations.{merged};

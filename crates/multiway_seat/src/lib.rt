@@ -1,5 +1,7 @@
 // The many-way joins and selections of seats: inner and full join, union and symmetric difference.
 
+#![tactic(auto)]
+
 ghost use Rattle.std.specs.Prelude.{◌≡◌};
 ghost use Rattle.rules.specs.Lists.{seats, given};
 ghost use Rattle.rules.specs.Answer.{leaves};

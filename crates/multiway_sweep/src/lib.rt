@@ -1,5 +1,7 @@
 // What a sweep over lists answers and holds, and what its step asks that touches no column.
 
+#![tactic(auto)]
+
 ghost use Rattle.std.specs.Prelude.{◌≡◌, ◌<◌};
 ghost use Rattle.multiway_sweep.specs.Steps.{EndFirst, sizes_after};
 

@@ -1,5 +1,7 @@
 // The sweep over the starts and ends of ranges: how it begins, its step over lent arrays, and the same by value.
 
+#![tactic(auto)]
+
 ghost use Rattle.std.specs.Prelude.{◌≤◌, ◌≡◌, length};
 ghost use Rattle.rules.specs.Lists.{seats, total};
 ghost use Rattle.multiway_sweep.specs.Steps.{reading, read, arrays, arrays_before, arrays_after, Underway, TakesNext};

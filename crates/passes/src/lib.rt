@@ -1,5 +1,7 @@
 // Going over the lists once or twice: how many pieces there can be, and what a pass concludes.
 
+#![tactic(auto)]
+
 ghost use Rattle.std.specs.Prelude.{◌*◌, ◌-◌, ◌≤◌, ◌≡◌};
 ghost use Rattle.passes.specs.Conclusion.{concluded};
 

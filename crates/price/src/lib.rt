@@ -1,5 +1,7 @@
 // The price at a point of columns with pieces: how many places count, what a piece says of a point, and a price as it is written.
 
+#![tactic(auto)]
+
 ghost use Rattle.std.specs.Prelude.{min, ◌≡◌};
 ghost use Rattle.price.specs.Reading.{said, charge, pence, presence};
 

@@ -1,5 +1,7 @@
 // The price at a point of lent columns of seats, and the prices at many.
 
+#![tactic(auto)]
+
 ghost use Rattle.std.specs.Prelude.{◌+◌, ◌<◌, ◌≤◌, ◌≡◌, length};
 ghost use Rattle.rules.specs.Lists.{seats, keys};
 ghost use Rattle.rules.specs.Answer.{leaves};

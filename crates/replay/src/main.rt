@@ -1,6 +1,8 @@
 // Runs a stored list of tariff files through the join printer's function, and says how many give the text that is stored with them.
 // The list, `answers.bin`: for each file its length and its text's, each in four bytes, big-endian, then the file and the text.
 
+#![tactic(auto)]
+
 ghost use Rattle.std.specs.Prelude.{◌≤◌, length as ListN·length};
 
 use join_file::join_file;

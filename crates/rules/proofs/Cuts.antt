@@ -63,6 +63,7 @@ enter_keeps k j (c ∷ cs) (inl e) = enter_cases k c cs (In j) (λ l. inr (inl e
 enter_keeps k j (c ∷ cs) (inr i) = enter_cases k c cs (In j) (λ l. inr (inr i)) (λ q. inr i) (λ l. inr (enter_keeps k j cs i))
 
 pub in_rising : (c k : ℕ) (cs : List ℕ) → Rising c cs → In k cs → c < k
+in_rising c k [] r x'' = elim x'' [ ]
 in_rising c k (d ∷ ds) r (inl e) = omega arith
 in_rising c k (d ∷ ds) r (inr i) = omega (arith, in_rising d k ds r.1 i)
 
@@ -71,6 +72,7 @@ le_last c [] r = omega arith
 le_last c (d ∷ ds) r = omega (arith, le_last d ds r.1)
 
 in_last : (c k : ℕ) (cs : List ℕ) → Rising c cs → In k (c ∷ cs) → k ≤ last c cs
+in_last c k [] r (inr i) = elim i [ ]
 in_last c k [] r (inl e) = omega arith
 in_last c k (d ∷ ds) r (inl e) = omega (arith, le_last d ds r.1)
 in_last c k (d ∷ ds) r (inr i) = in_last d k ds r.1 i
@@ -166,6 +168,7 @@ module _ {A : Type 0} (n : ℕ) where
     line_whole p h = go (line n ls) line_cutting.sorted (enter_in 0 (enter n (cuts ls))) (enter_keeps 0 n (enter n (cuts ls)) (enter_in n (cuts ls)))
       where
         go : (cs : List ℕ) → Sorted cs → In 0 cs → In n cs → Outside cs p → ⊥
+        go [] s low high _ = elim low [ ]
         go (c ∷ cs) s (inl q) high (inl l) = omega arith
         go (c ∷ cs) s (inr i) high (inl l) = omega (arith, in_rising c 0 cs s i)
         go (c ∷ cs) s low high (inr l) = omega (arith, in_last c n cs s high)

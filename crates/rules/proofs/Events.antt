@@ -16,6 +16,7 @@ module _ {A : Type 0} (e : Event A) where
   Of k x = (e ≡ starts x.start k x.value) ⊎ (e ≡ ends x.end k)
 
   in_left : (es fs : List (Event A)) → In e es → In e (es ++ fs)
+  in_left [] fs x' = elim x' [ ]
   in_left (x ∷ xs) fs (inl q) = inl q
   in_left (x ∷ xs) fs (inr i) = inr (in_left xs fs i)
 
@@ -29,6 +30,7 @@ module _ {A : Type 0} (e : Event A) where
   in_split (x ∷ xs) fs (inr i) = ⊎_elim (λ j. inl (inr j)) inr (in_split xs fs i)
 
   own_from : (k : ℕ) (l : List (Piece A)) → In e (own k l) → (x : Piece A) × Memᴰ x l × Of k x
+  own_from k [] x' = elim x' [ ]
   own_from k (x ∷ xs) (inl q) = (x, Memᴰ.head refl, inl q)
   own_from k (x ∷ xs) (inr (inl q)) = (x, Memᴰ.head refl, inr q)
   own_from k (x ∷ xs) (inr (inr i)) = let r = own_from k xs i in (r.0, Memᴰ.tail r.1, r.2)
@@ -38,6 +40,7 @@ module _ {A : Type 0} (e : Event A) where
   own_has k x (y ∷ ys) m o = ⊎_elim (λ q. ⊎_elim inl (λ r. inr (inl r)) (subst (Of k) q o)) (λ j. inr (inr (own_has k x ys j o))) (Memᴰ.cases_cons m)
 
   listed_from : (n : ℕ) (ls : List (List (Piece A))) → In e (listed n ls) → (k : ℕ) × (x : Piece A) × Memᴰ x (get_or ls k []) × Of (n + k) x
+  listed_from n [] i = elim i [ ]
   listed_from n (l ∷ ls) i =
       ⊎_elim (λ j. let r = own_from n l j in let q : n + 0 ≡ n = omega arith in (0, r.0, r.1, rw q r.2))
       (λ j. let r = listed_from (suc n) ls j in let q : n + suc r.0 ≡ suc n + r.0 = omega arith in (suc r.0, r.1, r.2, rw q r.3))

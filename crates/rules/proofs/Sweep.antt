@@ -104,6 +104,7 @@ module _ {A : Type 0} where
   all_right P (e ∷ es) fs a = all_right P es fs a.1
 
   pub all_in : (P : Event A → Type 0) (e : Event A) (es : List (Event A)) → All P es → In e es → P e
+  all_in P e [] a x'' = elim x'' [ ]
   all_in P e (x ∷ xs) a (inl q) = subst P (sym q) a.0
   all_in P e (x ∷ xs) a (inr i) = all_in P e xs a.1 i
 
@@ -143,10 +144,12 @@ module _ {A : Type 0} where
   put_has e (x ∷ xs) = put_cases e x xs (In e) (λ b. inl refl) (λ b. inr (put_has e xs))
 
   put_keeps : (e f : Event A) (es : List (Event A)) → In f es → In f (put e es)
+  put_keeps e f [] x' = elim x' [ ]
   put_keeps e f (x ∷ xs) (inl q) = put_cases e x xs (In f) (λ b. inr (inl q)) (λ b. inl q)
   put_keeps e f (x ∷ xs) (inr i) = put_cases e x xs (In f) (λ b. inr (inr i)) (λ b. inr (put_keeps e f xs i))
 
   pub sort_keeps : (e : Event A) (es : List (Event A)) → In e es → In e (sort es)
+  sort_keeps e [] x' = elim x' [ ]
   sort_keeps e (x ∷ xs) (inl q) = subst (λ y. In y (put x (sort xs))) (sym q) (put_has x (sort xs))
   sort_keeps e (x ∷ xs) (inr i) = put_keeps x e (sort xs) (sort_keeps e xs i)
 

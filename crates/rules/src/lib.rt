@@ -1,5 +1,7 @@
 // What a call of the library answers, the refusals among them, and what tells one kind of call from another.
 
+#![tactic(auto)]
+
 ghost use Rattle.std.specs.Prelude.{min, ◌≡◌};
 ghost use Rattle.rules.specs.Answer.{code_of, number_of};
 

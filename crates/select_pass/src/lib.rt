@@ -1,6 +1,8 @@
 // A selection, after SweepSelectMap of the Rust, but for its columns: the stretch before an event, what is said of it, and what the
 // event changes.
 
+#![tactic(auto)]
+
 ghost use Rattle.multiway_pass.specs.Pieces.{waiting};
 ghost use Rattle.select_pass.specs.Stretches.{StretchesTo};
 ghost use Rattle.select_pass.specs.Selections.{carried, carried_before, carried_after, kept, Keeps, Known, Says, Emits, Due, Takes};

@@ -1,5 +1,7 @@
 // One pass of a selection over the events of the lists: its pieces are counted, and written where that is asked.
 
+#![tactic(auto)]
+
 ghost use Rattle.rules.specs.Lists.{instants, lists, lent, given};
 ghost use Rattle.rules.specs.Merged.{output, before, after, lay};
 ghost use Rattle.many_way_rules.specs.Operations.{merged};

@@ -1,5 +1,7 @@
 // A sweep that is lent: its step advances it there.
 
+#![tactic(auto)]
+
 ghost use Rattle.rules.specs.Lists.{instants};
 ghost use Rattle.multiway_sweep.specs.Steps.{reading, read};
 ghost use Rattle.sweep_step.specs.Lent.{Goes, Moves};

@@ -1,5 +1,7 @@
 // The tariff file: what its operations are, why one is refused, and how a stretch of its records ends.
 
+#![tactic(auto)]
+
 ghost use Rattle.std.specs.Prelude.{◌≡◌};
 ghost use Rattle.tariff_file.specs.File.{code_of, number_of};
 

@@ -1,5 +1,7 @@
 // A list of tariff structs judged range by range: what is kept from one range to the next.
 
+#![tactic(auto)]
+
 ghost use Rattle.std.specs.Prelude.{◌≡◌, ◌<◌};
 ghost use Rattle.form.specs.Shape.{piece};
 ghost use Rattle.tariffs.specs.Looks.{unlooked, looked, after};

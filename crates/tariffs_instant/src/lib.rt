@@ -1,5 +1,7 @@
 // One list lent as a slice of tariff structs, judged before any join.
 
+#![tactic(auto)]
+
 ghost use Rattle.std.specs.Prelude.{◌≡◌};
 ghost use Rattle.std.proofs.Math.Option.{none};
 ghost use Rattle.rules.specs.Answer.{judge_list};

@@ -1,5 +1,7 @@
 // The rows of a two-way answer: how many bytes they take, and their bytes from a place on.
 
+#![tactic(auto)]
+
 ghost use Rattle.std.specs.Prelude.{◌+◌, ◌≡◌, leb, length};
 ghost use Rattle.rules.specs.Paired.{output, before};
 ghost use Rattle.answer_text.specs.Buffer.{Room, Put};

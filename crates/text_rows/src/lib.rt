@@ -1,5 +1,7 @@
 // Whole answers as text into a lent buffer, each measured first, then written; where one does not fit, nothing is written and 0 is answered.
 
+#![tactic(auto)]
+
 ghost use Rattle.std.specs.Prelude.{◌≡◌, length};
 ghost use Rattle.rules.specs.Merged.{output, before};
 ghost use Rattle.rules.specs.Paired.{output as pair-output, before as pair-before};

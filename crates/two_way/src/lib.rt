@@ -1,5 +1,7 @@
 // What is left of two lists that lie end to end, and the next piece of a two-way join of them. Points are told by their keys.
 
+#![tactic(auto)]
+
 ghost use Rattle.std.specs.Prelude.{◌≡◌, min, max};
 
 // Which sides a piece has: bit 0 is the left, bit 1 the right.

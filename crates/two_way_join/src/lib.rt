@@ -1,5 +1,7 @@
 // What the two-way joins need beside the columns: how many pieces there is room for.
 
+#![tactic(auto)]
+
 ghost use Rattle.std.specs.Prelude.{◌≡◌, min};
 
 use rules::shorter;

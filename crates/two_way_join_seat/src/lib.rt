@@ -1,5 +1,7 @@
 // The two-way joins over lent columns: inner, left and full.
 
+#![tactic(auto)]
+
 ghost use Rattle.std.specs.Prelude.{◌≡◌};
 ghost use Rattle.rules.specs.Lists.{seats, given};
 ghost use Rattle.rules.specs.Answer.{leaves};

@@ -1,5 +1,7 @@
 // What a pass of a two-way join needs beside the columns that it writes: where the left list ends, and the value of a side.
 
+#![tactic(auto)]
+
 ghost use Rattle.std.specs.Prelude.{◌≡◌, false, ◌<◌, length};
 ghost use Rattle.rules.specs.TwoWay.{side_value};
 ghost use Rattle.two_way.specs.Sides.{unless};

@@ -1,5 +1,7 @@
 // One pass over all pieces of a two-way join, which counts them, and writes them where it is told to.
 
+#![tactic(auto)]
+
 ghost use Rattle.std.specs.Prelude.{◌≡◌, true};
 ghost use Rattle.rules.specs.Lists.{instants, lent, given};
 ghost use Rattle.rules.specs.Paired.{output, before, after};

@@ -1,5 +1,7 @@
 // The next piece of a two-way join: what is left of two lists that lie end to end, over lent columns of starts and ends.
 
+#![tactic(auto)]
+
 ghost use Rattle.rules.specs.Lists.{seats};
 ghost use Rattle.two_way.specs.Sides.{two, two_given};
 ghost use Rattle.two_way.specs.Steps.{Ready, Stepped};
