@@ -3,7 +3,7 @@
 -- To keep the set in another way, replace this file (another `Active`, another `Keeps`), the bodies in src/lib.rt and the
 -- proofs but `Sets`; the contracts there, `Active.antt`, `Stands-same` and every caller stay as they are. Assumes nothing.
 use Rattle.std.specs.Prelude.{ℕ, ◌+◌, ◌-◌, ◌<◌, ◌≤◌, ◌≡◌, not, List, eqb, get_or, length, take}
-use Rattle.std.specs.Borrow.{Bor}
+use Rattle.std.specs.Borrow.{MutBor}
 use denote.Triple.Both.{Both}
 use Rattle.heap.specs.Heap.{Entries, Heap, many}
 use Rattle.heap.specs.Holes.{Climbed, Sifted}
@@ -52,7 +52,7 @@ pub data Stands (a : Active) (f : Set) : Type 0 where
 
 -- a lent value as a precondition sees it, and as a promise does, at entry and at exit
 abbrev pub State : Type 0
-State = Bor Active
+State = MutBor Active
 
 abbrev pub States : Type 0
 States = Both State State

@@ -26,7 +26,7 @@ const ENDED: u8 = 1;
 const ON: u8 = 2;
 
 // The highest active list.
-#[derive(Drop)]
+#[derive(Clone, Copy)]
 pub enum HighestActive {
     List(usize),
     Nothing,
@@ -158,14 +158,14 @@ pub fn highest(active: &mut Active) -> HighestActive
 
 // How many lists are active.
 pub fn how_many(active: &Active) -> usize
-    ensures { Numbers (stands_before active) result }
+    ensures { Numbers (Stands active.now) result }
 {
     wide(active[COUNT])
 }
 
 // Whether the number of active lists is odd.
 pub fn odd(active: &Active) -> bool
-    ensures { TellsOdd (stands_before active) result }
+    ensures { TellsOdd (Stands active.now) result }
 {
     active[COUNT] % 2 == 1
 }

@@ -5,7 +5,7 @@
 ghost use Rattle.std.specs.Prelude.{◌≡◌, ◌≤◌, min, ℤ, cond, List, [], ◌∷◌};
 ghost use Rattle.std.proofs.Math.Option.{some, none};
 ghost use Rattle.many_way_rules.specs.Combiners as rules;
-ghost use Rattle.slots.specs.Slots.{slots_before, slots_with, values_of};
+ghost use Rattle.slots.specs.Slots.{slots_of, slots_with, values_of};
 ghost use Rattle.combine.specs.Figures.{answer, Summed, Numbered, mirrored, weight, utmost};
 
 use rules::{MAX_LISTS, shorter};
@@ -14,7 +14,7 @@ use rules::{MAX_LISTS, shorter};
 const LOWEST: i32 = i32::MIN;
 
 // A combiner's answer over the values present.
-#[derive(Drop)]
+#[derive(Clone, Copy)]
 pub enum Combined {
     Value(i64),
     // No combiner has the number.
@@ -23,7 +23,7 @@ pub enum Combined {
 
 // The combiner with a number, over the values present in the places of the lists: there are sixteen.
 pub fn combine(combiner: u8, lists: usize, current: &[i32; 16], present: &[bool; 16]) -> Combined
-    ensures { answer result ≡ rules.combine combiner (values_of (min lists 16) (slots_before current present)) }
+    ensures { answer result ≡ rules.combine combiner (values_of (min lists 16) (slots_of current.now present.now)) }
 {
     let places = shorter(lists, MAX_LISTS);
     match combiner {
@@ -38,7 +38,7 @@ pub fn combine(combiner: u8, lists: usize, current: &[i32; 16], present: &[bool;
 
 fn sum(places: usize, current: &[i32; 16], present: &[bool; 16]) -> i64
     requires { places ≤ 16 }
-    ensures { Summed places (slots_before current present) result }
+    ensures { Summed places (slots_of current.now present.now) result }
 {
     let mut total: i64 = 0;
     let mut i = places;
@@ -53,14 +53,14 @@ fn sum(places: usize, current: &[i32; 16], present: &[bool; 16]) -> i64
 
 fn largest(places: usize, current: &[i32; 16], present: &[bool; 16]) -> i64
     requires { places ≤ 16 }
-    ensures { result ≡ rules.largest (values_of places (slots_before current present)) }
+    ensures { result ≡ rules.largest (values_of places (slots_of current.now present.now)) }
 {
     utmost(false, places, current, present)
 }
 
 fn smallest(places: usize, current: &[i32; 16], present: &[bool; 16]) -> i64
     requires { places ≤ 16 }
-    ensures { result ≡ rules.smallest (values_of places (slots_before current present)) }
+    ensures { result ≡ rules.smallest (values_of places (slots_of current.now present.now)) }
 {
     utmost(true, places, current, present)
 }
@@ -68,7 +68,7 @@ fn smallest(places: usize, current: &[i32; 16], present: &[bool; 16]) -> i64
 // The largest value, or the least: that whose mirror image is the largest. It goes over the places without a branch.
 fn utmost(least: bool, places: usize, current: &[i32; 16], present: &[bool; 16]) -> i64
     requires { places ≤ 16 }
-    ensures { result ≡ utmost least (values_of places (slots_before current present)) }
+    ensures { result ≡ utmost least (values_of places (slots_of current.now present.now)) }
 {
     let mut best = LOWEST;
     let mut i: usize = 0;
@@ -127,7 +127,7 @@ fn count(places: usize, present: &[bool; 16]) -> i64
 // Cut toward zero; 0 where no value is present.
 fn mean(places: usize, current: &[i32; 16], present: &[bool; 16]) -> i64
     requires { places ≤ 16 }
-    ensures { result ≡ rules.mean (values_of places (slots_before current present)) }
+    ensures { result ≡ rules.mean (values_of places (slots_of current.now present.now)) }
 {
     let n = count(places, present);
     if n == 0 {

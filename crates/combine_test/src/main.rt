@@ -4,7 +4,7 @@
 use combine::{Combined, combine};
 
 // What each combiner is to answer.
-#[derive(Drop)]
+#[derive(Clone, Copy)]
 struct Want {
     sum: i64,
     largest: i64,

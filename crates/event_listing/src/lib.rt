@@ -10,7 +10,7 @@ use multiway_sweep::Range;
 use rules::{Answer, shorter};
 
 // An event as the columns have it, its point told by its key.
-#[derive(Drop)]
+#[derive(Clone, Copy)]
 pub struct Row {
     pub kind: u8,
     pub key: u64,

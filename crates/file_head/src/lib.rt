@@ -17,14 +17,14 @@ const HEAD: u8 = 0x48;
 pub const HEAD_SIZE: usize = 6;
 
 // What a head asks for, if it is not refused.
-#[derive(Drop)]
+#[derive(Clone, Copy)]
 pub enum Asked {
     Known(Task),
     Refused(Refusal),
 }
 
 // A head, with operation, combiner and how many lists follow, if it is not refused.
-#[derive(Drop)]
+#[derive(Clone, Copy)]
 pub enum Opened {
     Head(Task, u8, u8, usize),
     Refused(Refusal),

@@ -3,7 +3,6 @@
 #![tactic(auto)]
 
 ghost use Rattle.std.specs.Prelude.{◌≤◌, length};
-ghost use Rattle.rules.specs.Lists.{lent};
 ghost use Rattle.rules.specs.Merged.{output, before, after, room};
 ghost use Rattle.tariff_file.specs.File.{read_list, read_lists};
 ghost use Rattle.file_reader.specs.Fills.{Fills, Counted, Gathered};
@@ -23,7 +22,7 @@ const LIST: u8 = 0x4C;
 const LIST_SIZE: usize = 4;
 
 // What a file holds: an operation's number and what it does, a combiner, and how many lists and ranges there are.
-#[derive(Drop)]
+#[derive(Clone, Copy)]
 pub struct Head {
     pub task: Task,
     pub operation: u8,
@@ -33,14 +32,14 @@ pub struct Head {
 }
 
 // What reading ends with: a refusal, or a file's head, its lists being in the columns.
-#[derive(Drop)]
+#[derive(Clone, Copy)]
 pub enum Contents {
     Refused(Refusal),
     Held(Head),
 }
 
 // How lists end: past the last byte, with so many ranges, or with a refusal.
-#[derive(Drop)]
+#[derive(Clone, Copy)]
 pub enum Filled {
     Past(usize, usize),
     Stopped(Refusal),
@@ -111,7 +110,7 @@ pub fn read_file(
     values: &mut [i32; 2048],
     counts: &mut [u32; 16],
 ) -> Contents
-    ensures { Holds file.now result (lent starts.exit ends.exit values.exit counts.exit) }
+    ensures { Holds file.now result (record { starts = starts.new; ends = ends.new; values = values.new; counts = counts.new }) }
 {
     if MAX_BYTES < file.len() {
         return Contents::Refused(Refusal::TooLong);

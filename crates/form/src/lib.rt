@@ -10,7 +10,7 @@ ghost use Rattle.form.specs.Shape.{judge_shape, piece, ended};
 use rules::{Answer, Judgement, Kind, MAX_LISTS, MAX_RANGES};
 
 // A range of a tariff, its points told by their keys.
-#[derive(Drop)]
+#[derive(Clone, Copy)]
 pub struct Range {
     pub start: u64,
     pub end: u64,
@@ -18,7 +18,7 @@ pub struct Range {
 }
 
 // What came before a range in its list: nothing, or a range that ended there.
-#[derive(Drop)]
+#[derive(Clone, Copy)]
 pub enum Prior {
     Nothing,
     End(u64),

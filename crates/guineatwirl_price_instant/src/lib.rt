@@ -20,7 +20,7 @@ pub extern "C" fn guineatwirl_instant_price_at(
     point: Point,
     price: &mut i64,
 ) -> u8
-    ensures { Told (price_at instants (merged.before «start» «end» «value») pieces (instants.key point)) result price.new }
+    ensures { Told (price_at instants (merged.columns «start».now «end».now «value».now) pieces (instants.key point)) result price.new }
 {
     let found = price_at(start, end, value, pieces, point);
     *price = written_value(found);

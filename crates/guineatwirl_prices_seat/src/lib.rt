@@ -23,7 +23,7 @@ pub extern "C" fn guineatwirl_seat_prices_at(
     out_presence: &mut [u8],
     number: &mut u64,
 ) -> u8
-    ensures { let c = merged.before «start» «end» «value» in
+    ensures { let c = merged.columns «start».now «end».now «value».now in
         let d = priced.before out_value out_presence in
         let f = priced.after out_value out_presence in
         Said (priced.prices_at seats c pieces points.now d) result number.new f }

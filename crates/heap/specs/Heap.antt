@@ -1,6 +1,6 @@
 -- A heap of entries, the key of a point with a list, in two arrays of sixteen and a length. Assumes nothing.
 use Rattle.std.specs.Prelude.{ℕ, ◌+◌, ◌-◌, ◌*◌, ◌≤◌, ◌≡◌, List, get_or, length}
-use Rattle.rules.specs.Lists.{Column, Columns}
+use Rattle.rules.specs.Lists.{MutColumn, MutColumns}
 use Rattle.heap.specs.Order.{Ordered, one, count}
 
 -- an entry's place in the order: by its key, and then by its list, which is a byte
@@ -17,13 +17,13 @@ abbrev pub entries_of : List ℕ → List ℕ → Entries
 entries_of keys lists = record { at = λ i. rank (get_or keys i 0) (get_or lists i 0); keys = length keys; lists = length lists }
 
 -- the arrays in a precondition, and in a promise at entry and at exit
-abbrev pub entries : Column ℕ → Column ℕ → Entries
+abbrev pub entries : MutColumn ℕ → MutColumn ℕ → Entries
 entries keys lists = entries_of keys.now lists.now
 
-abbrev pub entries_before : Columns ℕ → Columns ℕ → Entries
+abbrev pub entries_before : MutColumns ℕ → MutColumns ℕ → Entries
 entries_before keys lists = entries keys.entry lists.entry
 
-abbrev pub entries_after : Columns ℕ → Columns ℕ → Entries
+abbrev pub entries_after : MutColumns ℕ → MutColumns ℕ → Entries
 entries_after keys lists = entries keys.exit lists.exit
 
 pub record Whole (h : Entries) : Type 0 where

@@ -3,7 +3,7 @@
 #![tactic(auto)]
 ghost use Rattle.std.specs.Prelude.{◌+◌, ◌*◌, ◌<◌, ◌≤◌};
 ghost use Rattle.integer.specs.Order.{Less};
-ghost use Rattle.heap.specs.Heap.{rank, entries, entries_before, entries_after, Whole, Heap, Pushed, Popped, Topped};
+ghost use Rattle.heap.specs.Heap.{rank, entries_of, entries, entries_before, entries_after, Whole, Heap, Pushed, Popped, Topped};
 ghost use Rattle.heap.specs.Holes.{Chosen, PutAt, Climbed, Sifted};
 
 // Whether the entry (a, x) comes before (b, y).
@@ -42,8 +42,8 @@ fn climb(keys: &mut [u64; 16], lists: &mut [u8; 16], place: usize, key: u64, lis
 
 // The lesser child of a place that has one.
 fn lesser(keys: &[u64; 16], lists: &[u8; 16], len: usize, place: usize) -> usize
-    requires { Whole (entries keys lists) × (2 * place + 1 < len) × (len ≤ 16) }
-    ensures { Chosen (entries_before keys lists).at len place result }
+    requires { Whole (entries_of keys.now lists.now) × (2 * place + 1 < len) × (len ≤ 16) }
+    ensures { Chosen (entries_of keys.now lists.now).at len place result }
 {
     let left = 2 * place + 1;
     let right = left + 1;

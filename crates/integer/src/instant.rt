@@ -55,7 +55,7 @@ pub fn greatest_key() -> u64
 // Alike in both widths.
 
 // The point after another.
-#[derive(Drop)]
+#[derive(Clone, Copy)]
 pub enum Next {
     At(Point),
     // There is none after the greatest.

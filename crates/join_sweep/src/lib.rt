@@ -9,42 +9,42 @@ ghost use Rattle.join_sweep.specs.Stretches.{after, Begun, BegunAfter, EndsWith,
 use multiway_sweep::{Range, Sizes, Step};
 
 // A join's sweep, but for its arrays: the held event, with the sizes of the heaps after it, and how many lists are active.
-#[derive(Drop)]
+#[derive(Clone, Copy)]
 pub struct JoinSweep {
     pub held: Step,
     pub active_count: usize,
 }
 
 // The end of the last stretch.
-#[derive(Drop)]
+#[derive(Clone, Copy)]
 pub enum LastEnd {
     Nothing,
     At(u64),
 }
 
 // The next stretch and the sweep at its end, or nothing is left.
-#[derive(Drop)]
+#[derive(Clone, Copy)]
 pub enum NextStretch {
     Next(Range, JoinSweep),
     Done,
 }
 
 // Where a stretch begins.
-#[derive(Drop)]
+#[derive(Clone, Copy)]
 pub enum Begin {
     At(u64),
     Nowhere,
 }
 
 // A list whose range ends, with the sizes of the heaps after that event; or the held event is none of the sort.
-#[derive(Drop)]
+#[derive(Clone, Copy)]
 pub enum Ended {
     Of(usize, Sizes),
     Nothing,
 }
 
 // A list whose range starts, with its value and the sizes of the heaps after that event; or the held event is none of the sort.
-#[derive(Drop)]
+#[derive(Clone, Copy)]
 pub enum Started {
     Of(usize, i32, Sizes),
     Nothing,

@@ -6,7 +6,7 @@ ghost use Rattle.std.specs.Prelude.{◌≡◌};
 ghost use Rattle.many_way_rules.specs.Combiners as rules;
 
 // Which points are admitted: those in every list, in at least one, or in an odd number of them.
-#[derive(Drop)]
+#[derive(Clone, Copy)]
 pub enum Admission {
     Every,
     Any,
@@ -14,13 +14,13 @@ pub enum Admission {
 }
 
 // Which of the lists present is selected.
-#[derive(Drop)]
+#[derive(Clone, Copy)]
 pub enum Pick {
     Highest,
 }
 
 // A join combines the values of the lists present, by the number of its combiner; a selection takes the value of one.
-#[derive(Drop)]
+#[derive(Clone, Copy)]
 pub enum Operation {
     Join(Admission, u8),
     Select(Pick, Admission),

@@ -11,20 +11,20 @@ ghost use Rattle.rules.specs.Same.{eq_ℤ};
 ghost use Rattle.many_way_rules.specs.Selections.{admitted};
 ghost use Rattle.many_way_rules.specs.Operations.{rule_of};
 ghost use Rattle.many_way_rules.specs.declared.Operation.TheVariants.{Join};
-ghost use Rattle.slots.specs.Slots.{active, Counted, slots, slots_before};
+ghost use Rattle.slots.specs.Slots.{active, Counted, slots_of};
 ghost use Rattle.multiway_pass.specs.Pieces.{Present, ruling_of, piece_of, waiting, PushedOn};
 
 use combine::{Combined, combine};
 use many_way_rules::Admission;
 
 // What an operation says of a stretch: not admitted, or admitted with a value.
-#[derive(Drop)]
+#[derive(Clone, Copy)]
 pub enum Ruling {
     Nothing,
     Value(i64),
 }
 
-#[derive(Drop)]
+#[derive(Clone, Copy)]
 pub struct Piece {
     pub start: u64,
     pub end: u64,
@@ -32,14 +32,14 @@ pub struct Piece {
 }
 
 // A piece that may still grow, or none.
-#[derive(Drop)]
+#[derive(Clone, Copy)]
 pub enum Pending {
     Nothing,
     One(Piece),
 }
 
 // The piece that is pending then, and what was pending before, where it is done.
-#[derive(Drop)]
+#[derive(Clone, Copy)]
 pub struct Pushed {
     pub pending: Piece,
     pub done: Pending,
@@ -65,8 +65,8 @@ pub fn rule_on(
     current: &[i32; 16],
     present: &[bool; 16],
 ) -> Ruling
-    requires { Counted lists how_many (slots current present) }
-    ensures { ruling_of result ≡ rule_of (Join admission combiner) (active lists (slots_before current present)) }
+    requires { Counted lists how_many (slots_of current.now present.now) }
+    ensures { ruling_of result ≡ rule_of (Join admission combiner) (active lists (slots_of current.now present.now)) }
 {
     if !admits(admission, lists, how_many) {
         return Ruling::Nothing;

@@ -2,13 +2,13 @@
 use Rattle.std.specs.Prelude.{ℕ, ◌≤◌, ◌≡◌, List, ℤ, length}
 use Rattle.heap.specs.Heap.{entries_of, entries, Whole}
 use Rattle.rules.specs.Piece.{AllWellFormed}
-use Rattle.rules.specs.Lists.{Width, Lent, Column, Columns, lists, total}
+use Rattle.rules.specs.Lists.{Width, Lent, Column, Columns, MutColumn, MutColumns, lists, total}
 use Rattle.rules.specs.Sweep.{Event, events}
 use Rattle.multiway_sweep.specs.Steps.{Arrays, reads, Sweeping}
 use Rattle.multiway_sweep.specs.declared.Sizes.{Sizes}
 
 -- at most sixteen lists, whose counts add up to the ranges, and arrays to lay their cursors in
-pub record Fillable {P : Type 0} (starts : Column P) (counts cursors start_keys start_lists : Column ℕ) : Type 0 where
+pub record Fillable {P : Type 0} (starts : Column P) (counts : Column ℕ) (cursors start_keys start_lists : MutColumn ℕ) : Type 0 where
   pub few : length counts.now ≤ 16
   pub adds_up : total counts.now ≡ length starts.now
   pub cursors_long : length cursors.now ≡ 32
@@ -33,5 +33,5 @@ Fills w starts counts cursors start_keys start_lists z =
     Begins w starts counts (record { cursors = cursors; start_keys = start_keys; start_lists = start_lists; end_keys = end_keys; end_lists = end_lists }) z
 
 -- the arrays as a call leaves them
-abbrev pub Filled : {P : Type 0} → Width P → Columns P → Columns ℕ → Columns ℕ → Columns ℕ → Columns ℕ → Sizes → Type 0
+abbrev pub Filled : {P : Type 0} → Width P → Columns P → Columns ℕ → MutColumns ℕ → MutColumns ℕ → MutColumns ℕ → Sizes → Type 0
 Filled w starts counts cursors start_keys start_lists = Fills w starts.entry.now counts.entry.now cursors.exit.now start_keys.exit.now start_lists.exit.now

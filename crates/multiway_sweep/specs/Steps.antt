@@ -1,7 +1,7 @@
 -- What a step of the sweep promises: the head of the events that are left, and what is left then is the tail. Assumes nothing.
 use Rattle.std.specs.Prelude.{ℕ, ◌+◌, ◌<◌, ◌≤◌, ◌≡◌, ◌⊎◌, Bool, true, false, List, [], ◌∷◌, ℤ, pos, length, get_or}
 use Rattle.heap.specs.Heap.{entries_of}
-use Rattle.rules.specs.Lists.{Width, Lent, Column, Columns, keys}
+use Rattle.rules.specs.Lists.{Width, Lent, Column, Columns, MutColumn, MutColumns, keys}
 use Rattle.rules.specs.Sweep as rules
 use Rattle.multiway_sweep.specs.Stands.{View, Stands}
 use Rattle.multiway_sweep.specs.declared.Step.{Step}
@@ -55,13 +55,13 @@ pub record Arrays : Type 0 where
   pub end_lists : List ℕ
 
 -- the arrays in a precondition, and in a promise at entry and at exit
-abbrev pub arrays : Column ℕ → Column ℕ → Column ℕ → Column ℕ → Column ℕ → Arrays
+abbrev pub arrays : MutColumn ℕ → MutColumn ℕ → MutColumn ℕ → MutColumn ℕ → MutColumn ℕ → Arrays
 arrays c sk sl ek el = record { cursors = c.now; start_keys = sk.now; start_lists = sl.now; end_keys = ek.now; end_lists = el.now }
 
-abbrev pub arrays_before : Columns ℕ → Columns ℕ → Columns ℕ → Columns ℕ → Columns ℕ → Arrays
+abbrev pub arrays_before : MutColumns ℕ → MutColumns ℕ → MutColumns ℕ → MutColumns ℕ → MutColumns ℕ → Arrays
 arrays_before c sk sl ek el = arrays c.entry sk.entry sl.entry ek.entry el.entry
 
-abbrev pub arrays_after : Columns ℕ → Columns ℕ → Columns ℕ → Columns ℕ → Columns ℕ → Arrays
+abbrev pub arrays_after : MutColumns ℕ → MutColumns ℕ → MutColumns ℕ → MutColumns ℕ → MutColumns ℕ → Arrays
 arrays_after c sk sl ek el = arrays c.exit sk.exit sl.exit ek.exit el.exit
 
 abbrev pub next_at : List ℕ → ℕ → ℕ

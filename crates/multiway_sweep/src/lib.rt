@@ -5,21 +5,21 @@
 ghost use Rattle.std.specs.Prelude.{◌≡◌, ◌<◌};
 ghost use Rattle.multiway_sweep.specs.Steps.{EndFirst, sizes_after};
 
-#[derive(Drop)]
+#[derive(Clone, Copy)]
 pub struct Range {
     pub start: u64,
     pub end: u64,
 }
 
 // How many entries the two heaps have.
-#[derive(Drop)]
+#[derive(Clone, Copy)]
 pub struct Sizes {
     pub starts: usize,
     pub active_ends: usize,
 }
 
 // The next event, one list's range starting or ending, with the sizes of the heaps after it, or nothing is left.
-#[derive(Drop)]
+#[derive(Clone, Copy)]
 pub enum Step {
     // The range, its list and its value.
     Start(Range, usize, i32, Sizes),
@@ -41,7 +41,7 @@ pub struct Sweep {
 }
 
 // What a step of a sweep took, and the sweep after it.
-#[derive(Drop)]
+#[derive(Clone, Copy)]
 pub struct Advance {
     pub taken: Step,
     pub sweep: Sweep,

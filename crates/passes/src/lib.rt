@@ -8,7 +8,7 @@ ghost use Rattle.passes.specs.Conclusion.{concluded};
 use rules::Answer;
 
 // What a pass concludes: the answer, or nothing yet, and the next pass writes.
-#[derive(Drop)]
+#[derive(Clone, Copy)]
 pub enum Conclusion {
     Answered(Answer),
     Again,

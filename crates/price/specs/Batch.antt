@@ -1,6 +1,6 @@
 -- The prices at many points, and the columns that they are written to: value and presence. Assumes nothing.
 use Rattle.std.specs.Prelude.{ℕ, List, [], ◌∷◌, ℤ, length}
-use Rattle.rules.specs.Lists.{Width, Column, Columns}
+use Rattle.rules.specs.Lists.{Width, MutColumn, MutColumns}
 use Rattle.rules.specs.Answer.{Outcome, settle, least, laid}
 use Rattle.rules.specs.Merged.{Merged}
 use Rattle.rules.specs.declared.Judgement.TheVariants.{Sound}
@@ -11,13 +11,13 @@ pub record Priced : Type 0 where
   pub presence : List ℕ
 
 -- the columns before and after a call
-abbrev pub output : Column ℤ → Column ℕ → Priced
+abbrev pub output : MutColumn ℤ → MutColumn ℕ → Priced
 output v p = record { value = v.now; presence = p.now }
 
-abbrev pub before : Columns ℤ → Columns ℕ → Priced
+abbrev pub before : MutColumns ℤ → MutColumns ℕ → Priced
 before v p = output v.entry p.entry
 
-abbrev pub after : Columns ℤ → Columns ℕ → Priced
+abbrev pub after : MutColumns ℤ → MutColumns ℕ → Priced
 after v p = output v.exit p.exit
 
 abbrev pub room : Priced → ℕ

@@ -8,7 +8,7 @@ ghost use Rattle.price.specs.Reading.{said, charge, pence, presence};
 use rules::shorter;
 
 // What is charged at a point.
-#[derive(Drop)]
+#[derive(Clone, Copy)]
 pub enum Price {
     // Nothing is on sale there.
     Nothing,

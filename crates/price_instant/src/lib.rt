@@ -67,8 +67,8 @@ fn find(start: &[Point], among: usize, point: u64) -> usize
 
 // What the piece at a place says of the point.
 fn charge(start: &[Point], end: &[Point], value: &[i64], place: usize, point: u64) -> Price
-    requires { place < room (merged.output «start» «end» «value») }
-    ensures { said result ≡ charge (piece instants (merged.before «start» «end» «value») place) point }
+    requires { place < room (merged.columns «start».now «end».now «value».now) }
+    ensures { said result ≡ charge (piece instants (merged.columns «start».now «end».now «value».now) place) point }
 {
     charged(
         key_at(start, place),
@@ -80,8 +80,8 @@ fn charge(start: &[Point], end: &[Point], value: &[i64], place: usize, point: u6
 
 // The price at the point with a key, of pieces that are few.
 fn price_of_few(start: &[Point], end: &[Point], value: &[i64], pieces: usize, point: u64) -> Price
-    requires { (pieces < 16) × (pieces ≤ room (merged.output «start» «end» «value»)) }
-    ensures { said result ≡ price_at instants (merged.before «start» «end» «value») pieces point }
+    requires { (pieces < 16) × (pieces ≤ room (merged.columns «start».now «end».now «value».now)) }
+    ensures { said result ≡ price_at instants (merged.columns «start».now «end».now «value».now) pieces point }
 {
     if pieces == 0 {
         return Price::Nothing;
@@ -92,8 +92,8 @@ fn price_of_few(start: &[Point], end: &[Point], value: &[i64], pieces: usize, po
 
 // The price at the point with a key, of pieces that are many.
 fn price_of_many(start: &[Point], end: &[Point], value: &[i64], pieces: usize, point: u64) -> Price
-    requires { (16 ≤ pieces) × (pieces ≤ room (merged.output «start» «end» «value»)) }
-    ensures { said result ≡ price_at instants (merged.before «start» «end» «value») pieces point }
+    requires { (16 ≤ pieces) × (pieces ≤ room (merged.columns «start».now «end».now «value».now)) }
+    ensures { said result ≡ price_at instants (merged.columns «start».now «end».now «value».now) pieces point }
 {
     let place = find(start, pieces, point);
     charge(start, end, value, place, point)
@@ -101,7 +101,7 @@ fn price_of_many(start: &[Point], end: &[Point], value: &[i64], pieces: usize, p
 
 // The price at the point with a key. Where all columns have many pieces, a search does not wait for the least of the lengths.
 fn price_at_key(start: &[Point], end: &[Point], value: &[i64], pieces: usize, point: u64) -> Price
-    ensures { said result ≡ price_at instants (merged.before «start» «end» «value») pieces point }
+    ensures { said result ≡ price_at instants (merged.columns «start».now «end».now «value».now) pieces point }
 {
     let counted = if (pieces < 16)
         | (start.len() < pieces)
@@ -121,7 +121,7 @@ fn price_at_key(start: &[Point], end: &[Point], value: &[i64], pieces: usize, po
 
 // The price at a point: of the first pieces of the columns, so many of them, what the one that has it says.
 pub fn price_at(start: &[Point], end: &[Point], value: &[i64], pieces: usize, point: Point) -> Price
-    ensures { said result ≡ price_at instants (merged.before «start» «end» «value») pieces (instants.key point) }
+    ensures { said result ≡ price_at instants (merged.columns «start».now «end».now «value».now) pieces (instants.key point) }
 {
     price_at_key(start, end, value, pieces, key(point))
 }
@@ -137,7 +137,7 @@ pub fn prices_at(
     out_presence: &mut [u8],
 ) -> Answer
     ensures { leaves result (after out_value out_presence)
-        ≡ prices_at instants (merged.before «start» «end» «value») pieces points.now (before out_value out_presence) }
+        ≡ prices_at instants (merged.columns «start».now «end».now «value».now) pieces points.now (before out_value out_presence) }
 {
     let rows = points.len();
     if shorter(out_value.len(), out_presence.len()) < rows {

@@ -13,14 +13,14 @@ const LIST_ROOM: usize = 262144;
 const TEXT_ROOM: usize = 65536;
 
 // Whether a file's text is the one that is stored, and how many bytes of the list they take; 0 where the list breaks off.
-#[derive(Drop)]
+#[derive(Clone, Copy)]
 struct Turn {
     agrees: bool,
     length: usize,
 }
 
 // How many files agree and how many do not, which is the first that does not, counted from 1, and whether the list is whole.
-#[derive(Drop)]
+#[derive(Clone, Copy)]
 struct Tally {
     agree: u64,
     differ: u64,

@@ -2,7 +2,7 @@
 use Prim.Native.Nat.{ℕ}
 use mathlib.Core.Path.{◌≡◌, refl}
 use lib.IntN.{ℤ}
-use Rattle.rules.specs.Lists.{Columns, given}
+use Rattle.rules.specs.Lists.{Columns, MutColumns, given}
 use Rattle.rules.specs.Merged as merged_columns
 use Rattle.rules.specs.Paired as paired_columns
 use Rattle.rules.specs.Listed as listed_columns
@@ -11,21 +11,21 @@ module _ {P : Type 0} where
   pub given_reads : (starts ends : Columns P) (values : Columns ℤ) (counts : Columns ℕ) → given starts ends values counts ≡ record { starts = starts.entry.now; ends = ends.entry.now; values = values.entry.now; counts = counts.entry.now }
   given_reads starts ends values counts = refl
 
-  module _ (start end : Columns P) (value : Columns ℤ) where
+  module _ (start end : MutColumns P) (value : MutColumns ℤ) where
     pub merged_before_reads : merged_columns.before start end value ≡ record { start = start.entry.now; end = end.entry.now; value = value.entry.now }
     merged_before_reads = refl
 
     pub merged_after_reads : merged_columns.after start end value ≡ record { start = start.exit.now; end = end.exit.now; value = value.exit.now }
     merged_after_reads = refl
 
-  module _ (start end : Columns P) (left right : Columns ℤ) (presence : Columns ℕ) where
+  module _ (start end : MutColumns P) (left right : MutColumns ℤ) (presence : MutColumns ℕ) where
     pub paired_before_reads : paired_columns.before start end left right presence ≡ record { start = start.entry.now; end = end.entry.now; left = left.entry.now; right = right.entry.now; presence = presence.entry.now }
     paired_before_reads = refl
 
     pub paired_after_reads : paired_columns.after start end left right presence ≡ record { start = start.exit.now; end = end.exit.now; left = left.exit.now; right = right.exit.now; presence = presence.exit.now }
     paired_after_reads = refl
 
-  module _ (kind : Columns ℕ) (point : Columns P) (list : Columns ℕ) (value : Columns ℤ) where
+  module _ (kind : MutColumns ℕ) (point : MutColumns P) (list : MutColumns ℕ) (value : MutColumns ℤ) where
     pub listed_before_reads : listed_columns.before kind point list value ≡ record { kind = kind.entry.now; point = point.entry.now; list = list.entry.now; value = value.entry.now }
     listed_before_reads = refl
 

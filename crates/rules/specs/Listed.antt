@@ -1,6 +1,6 @@
 -- The output columns of the event listing: kind, point, list and value. Assumes nothing.
 use Rattle.std.specs.Prelude.{ℕ, List, [], ◌∷◌, ℤ, pos, length}
-use Rattle.rules.specs.Lists.{Width, Column, Columns}
+use Rattle.rules.specs.Lists.{Width, MutColumn, MutColumns}
 use Rattle.rules.specs.Answer.{least, laid}
 use Rattle.rules.specs.Sweep.{Event, starts, ends, point, kind, list}
 
@@ -11,13 +11,13 @@ pub record Listed (P : Type 0) : Type 0 where
   pub value : List ℤ
 
 -- the columns in a precondition, and in a promise before and after the call
-abbrev pub output : {P : Type 0} → Column ℕ → Column P → Column ℕ → Column ℤ → Listed P
+abbrev pub output : {P : Type 0} → MutColumn ℕ → MutColumn P → MutColumn ℕ → MutColumn ℤ → Listed P
 output k p l v = record { kind = k.now; point = p.now; list = l.now; value = v.now }
 
-abbrev pub before : {P : Type 0} → Columns ℕ → Columns P → Columns ℕ → Columns ℤ → Listed P
+abbrev pub before : {P : Type 0} → MutColumns ℕ → MutColumns P → MutColumns ℕ → MutColumns ℤ → Listed P
 before k p l v = output k.entry p.entry l.entry v.entry
 
-abbrev pub after : {P : Type 0} → Columns ℕ → Columns P → Columns ℕ → Columns ℤ → Listed P
+abbrev pub after : {P : Type 0} → MutColumns ℕ → MutColumns P → MutColumns ℕ → MutColumns ℤ → Listed P
 after k p l v = output k.exit p.exit l.exit v.exit
 
 abbrev pub lengths : {P : Type 0} → Listed P → List ℕ

@@ -1,6 +1,6 @@
 -- Lists as they are lent: columns of starts, ends and values, and one count per list; lists lie end to end in list order. Assumes nothing.
 use Rattle.std.specs.Prelude.{ℕ, zero, suc, ◌+◌, ◌-◌, ◌^◌, cond, List, [], ◌∷◌, ltb, ℤ, pos, negsuc, get_or}
-use Rattle.std.specs.Borrow.{Bor}
+use Rattle.std.specs.Borrow.{Bor, MutBor}
 use denote.Triple.Both.{Both}
 use Rattle.rules.specs.Piece.{Piece, Range}
 
@@ -31,12 +31,19 @@ pub record Lent (P : Type 0) : Type 0 where
   pub values : List ℤ
   pub counts : List ℕ
 
--- a column as a precondition sees it, and as a promise does, which can ask what it is at entry and at exit
+-- a column that is lent to be read, as a precondition sees it, and as a promise does, which can ask what it is at entry and at exit
 abbrev pub Column : Type 0 → Type 0
 Column A = Bor (List A)
 
 abbrev pub Columns : Type 0 → Type 0
 Columns A = Both (Column A) (Column A)
+
+-- the same of a column that is lent to be written
+abbrev pub MutColumn : Type 0 → Type 0
+MutColumn A = MutBor (List A)
+
+abbrev pub MutColumns : Type 0 → Type 0
+MutColumns A = Both (MutColumn A) (MutColumn A)
 
 -- what is lent to be read, in a precondition and in a promise
 abbrev pub lent : {P : Type 0} → Column P → Column P → Column ℤ → Column ℕ → Lent P

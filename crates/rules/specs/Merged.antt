@@ -1,7 +1,7 @@
 -- The output columns of many-way joins and selections: start, end and value. Assumes nothing.
 use Rattle.std.specs.Prelude.{ℕ, List, [], ◌∷◌, ℤ, length}
 use Rattle.rules.specs.Piece.{Range}
-use Rattle.rules.specs.Lists.{Width, Column, Columns}
+use Rattle.rules.specs.Lists.{Width, MutColumn, MutColumns}
 use Rattle.rules.specs.Answer.{least, laid}
 
 pub record Merged (P : Type 0) : Type 0 where
@@ -9,14 +9,18 @@ pub record Merged (P : Type 0) : Type 0 where
   pub end : List P
   pub value : List ℤ
 
--- the columns in a precondition, and in a promise before and after the call
-abbrev pub output : {P : Type 0} → Column P → Column P → Column ℤ → Merged P
-output s e v = record { start = s.now; end = e.now; value = v.now }
+-- the columns with some contents
+abbrev pub columns : {P : Type 0} → List P → List P → List ℤ → Merged P
+columns s e v = record { start = s; end = e; value = v }
 
-abbrev pub before : {P : Type 0} → Columns P → Columns P → Columns ℤ → Merged P
+-- the columns in a precondition, and in a promise before and after the call
+abbrev pub output : {P : Type 0} → MutColumn P → MutColumn P → MutColumn ℤ → Merged P
+output s e v = columns s.now e.now v.now
+
+abbrev pub before : {P : Type 0} → MutColumns P → MutColumns P → MutColumns ℤ → Merged P
 before s e v = output s.entry e.entry v.entry
 
-abbrev pub after : {P : Type 0} → Columns P → Columns P → Columns ℤ → Merged P
+abbrev pub after : {P : Type 0} → MutColumns P → MutColumns P → MutColumns ℤ → Merged P
 after s e v = output s.exit e.exit v.exit
 
 abbrev pub lengths : {P : Type 0} → Merged P → List ℕ

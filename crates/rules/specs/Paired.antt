@@ -1,7 +1,7 @@
 -- The output columns of two-way operations: start, end, the value of each side and which sides are present. Assumes nothing.
 use Rattle.std.specs.Prelude.{ℕ, List, [], ◌∷◌, ℤ, length}
 use Rattle.rules.specs.Piece.{Piece}
-use Rattle.rules.specs.Lists.{Width, Column, Columns}
+use Rattle.rules.specs.Lists.{Width, MutColumn, MutColumns}
 use Rattle.rules.specs.Answer.{least, laid}
 use Rattle.rules.specs.TwoWay.{Match, side_value, presence}
 
@@ -12,14 +12,18 @@ pub record Paired (P : Type 0) : Type 0 where
   pub right : List ℤ
   pub presence : List ℕ
 
--- the columns in a precondition, and in a promise before and after the call
-abbrev pub output : {P : Type 0} → Column P → Column P → Column ℤ → Column ℤ → Column ℕ → Paired P
-output s e l r p = record { start = s.now; end = e.now; left = l.now; right = r.now; presence = p.now }
+-- the columns with some contents
+abbrev pub columns : {P : Type 0} → List P → List P → List ℤ → List ℤ → List ℕ → Paired P
+columns s e l r p = record { start = s; end = e; left = l; right = r; presence = p }
 
-abbrev pub before : {P : Type 0} → Columns P → Columns P → Columns ℤ → Columns ℤ → Columns ℕ → Paired P
+-- the columns in a precondition, and in a promise before and after the call
+abbrev pub output : {P : Type 0} → MutColumn P → MutColumn P → MutColumn ℤ → MutColumn ℤ → MutColumn ℕ → Paired P
+output s e l r p = columns s.now e.now l.now r.now p.now
+
+abbrev pub before : {P : Type 0} → MutColumns P → MutColumns P → MutColumns ℤ → MutColumns ℤ → MutColumns ℕ → Paired P
 before s e l r p = output s.entry e.entry l.entry r.entry p.entry
 
-abbrev pub after : {P : Type 0} → Columns P → Columns P → Columns ℤ → Columns ℤ → Columns ℕ → Paired P
+abbrev pub after : {P : Type 0} → MutColumns P → MutColumns P → MutColumns ℤ → MutColumns ℤ → MutColumns ℕ → Paired P
 after s e l r p = output s.exit e.exit l.exit r.exit p.exit
 
 abbrev pub lengths : {P : Type 0} → Paired P → List ℕ

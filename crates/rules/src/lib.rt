@@ -11,7 +11,7 @@ pub const MAX_LISTS: usize = 16;
 pub const MAX_RANGES: usize = 2048;
 
 // What a call answers: done, with the pieces written, or a refusal.
-#[derive(Drop)]
+#[derive(Clone, Copy)]
 pub enum Answer {
     Done(usize),
     TooManyLists,
@@ -28,14 +28,14 @@ pub enum Answer {
 }
 
 // What is found before an operation runs.
-#[derive(Drop)]
+#[derive(Clone, Copy)]
 pub enum Judgement {
     Sound,
     Refused(Answer),
 }
 
 // What is to be done with the lists, as far as refusals tell it apart.
-#[derive(Drop)]
+#[derive(Clone, Copy)]
 pub enum Kind {
     Listing,
     TwoWay,
@@ -45,7 +45,7 @@ pub enum Kind {
 }
 
 // Which runs of two lists a two-way join keeps: those that both cover, that the left covers, or that either does.
-#[derive(Drop)]
+#[derive(Clone, Copy)]
 pub enum Pairing {
     Inner,
     Left,

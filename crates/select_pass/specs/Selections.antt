@@ -2,7 +2,7 @@
 use Rattle.std.specs.Prelude.{ℕ, ◌≤◌, ◌<◌, ◌≡◌, Bool, true, List, [], ◌∷◌, ℤ, pos, length, get_or}
 use Rattle.std.proofs.Math.Option.{Option, none, some}
 use Rattle.rules.specs.Piece.{Range, there, present}
-use Rattle.rules.specs.Lists.{Column, Columns}
+use Rattle.rules.specs.Lists.{MutColumn, MutColumns}
 use Rattle.rules.specs.Sweep as rules
 use Rattle.many_way_rules.specs.Selections.{admitted}
 use Rattle.many_way_rules.specs.Operations.{rule_of}
@@ -10,7 +10,7 @@ use Rattle.many_way_rules.specs.declared.Admission.{Admission}
 use Rattle.many_way_rules.specs.declared.Operation.TheVariants.{Select}
 use Rattle.many_way_rules.specs.declared.Pick.TheVariants.{Highest}
 use Rattle.active_lists.specs.Active.{has}
-use Rattle.active_lists.specs.Kept.{Active, State, States, Stands, stands_before}
+use Rattle.active_lists.specs.Kept.{Active, State, States, Stands}
 use Rattle.multiway_sweep.specs.Front.{apply}
 use Rattle.multiway_sweep.specs.declared.Step.{Step}
 use Rattle.multiway_sweep.specs.declared.Step.TheVariants.{Start, End, Done}
@@ -33,18 +33,18 @@ pub record Carried (current : List ℤ) (active : Active) (act : Held) : Type 0 
   pub values : (i : ℕ) (v : ℤ) → get_or act i none ≡ some v → get_or current i (pos 0) ≡ v
 
 -- the same of parameters, in a precondition, and in a promise at entry and at exit
-abbrev pub carried : Column ℤ → State → Held → Type 0
+abbrev pub carried : MutColumn ℤ → State → Held → Type 0
 carried current active = Carried current.now active.now
 
-abbrev pub carried_before : Columns ℤ → States → Held → Type 0
+abbrev pub carried_before : MutColumns ℤ → States → Held → Type 0
 carried_before current active = carried current.entry active.entry
 
-abbrev pub carried_after : Columns ℤ → States → Held → Type 0
+abbrev pub carried_after : MutColumns ℤ → States → Held → Type 0
 carried_after current active = carried current.exit active.exit
 
 -- the lists that have something are active
-abbrev pub kept : States → Held → Type 0
-kept active act = stands_before active (has act)
+abbrev pub kept : Active → Held → Type 0
+kept active act = Stands active (has act)
 
 -- so many lists have what P says
 abbrev pub Known : (Held → Type 0) → ℕ → Type 0

@@ -5,7 +5,7 @@
 
 ghost use Rattle.multiway_pass.specs.Pieces.{waiting};
 ghost use Rattle.select_pass.specs.Stretches.{StretchesTo};
-ghost use Rattle.select_pass.specs.Selections.{carried, carried_before, carried_after, kept, Keeps, Known, Says, Emits, Due, Takes};
+ghost use Rattle.select_pass.specs.Selections.{Carried, carried, carried_before, carried_after, kept, Keeps, Known, Says, Emits, Due, Takes};
 
 use active_lists::{Active, HighestActive, activate, deactivate, highest, how_many, odd};
 use many_way_rules::Admission;
@@ -13,14 +13,14 @@ use multiway_pass::{Pending, Piece, Ruling, admits};
 use multiway_sweep::{Range, Step};
 
 // Where the current stretch starts, while a list is active.
-#[derive(Drop)]
+#[derive(Clone, Copy)]
 pub enum StretchStart {
     At(u64),
     Nowhere,
 }
 
 // The stretch before an event; nothing where it has no point, or no list is active on it.
-#[derive(Drop)]
+#[derive(Clone, Copy)]
 pub enum StretchBefore {
     Of(Range),
     Nothing,
@@ -54,7 +54,7 @@ pub fn stretch_before(event: Step, stretch_start: StretchStart) -> StretchBefore
 
 // Whether the points are admitted at which so many lists have what is active.
 fn keeps(admission: Admission, lists: usize, active: &Active) -> bool
-    ensures { Keeps admission lists (kept active) result }
+    ensures { Keeps admission lists (kept active.now) result }
 {
     if let Admission::Odd = admission {
         return odd(active);
@@ -69,8 +69,8 @@ fn highest_value(
     current: &[i32; 16],
     active: &mut Active,
 ) -> Ruling
-    requires { Known (carried current active) lists }
-    ensures { Says admission lists (carried_before current active) (carried_after current active) result }
+    requires { Known (Carried current.now active.old) lists }
+    ensures { Says admission lists (Carried current.now active.old) (Carried current.now active.new) result }
 {
     if !keeps(admission, lists, active) {
         return Ruling::Nothing;
@@ -91,8 +91,8 @@ pub fn emit(
     current: &[i32; 16],
     active: &mut Active,
 ) -> Pending
-    requires { Known (carried current active) lists }
-    ensures { Emits admission lists (carried_before current active) (carried_after current active) stretch (waiting result) }
+    requires { Known (Carried current.now active.old) lists }
+    ensures { Emits admission lists (Carried current.now active.old) (Carried current.now active.new) stretch (waiting result) }
 {
     let StretchBefore::Of(range) = stretch else {
         return Pending::Nothing;

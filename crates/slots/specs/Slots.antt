@@ -2,20 +2,24 @@
 use Rattle.std.specs.Prelude.{ℕ, zero, suc, ◌≤◌, ◌≡◌, Bool, false, cond, List, [], ◌∷◌, ℤ, pos, length, get_or}
 use Rattle.std.proofs.Math.Option.{Option, none, some}
 use Rattle.rules.specs.Piece as pieces
-use Rattle.rules.specs.Lists.{Column, Columns}
+use Rattle.rules.specs.Lists.{Columns, MutColumn, MutColumns}
 
 pub record Slots : Type 0 where
   pub current : List ℤ
   pub present : List Bool
 
--- the places in a precondition, and in a promise at entry and at exit
-abbrev pub slots : Column ℤ → Column Bool → Slots
-slots current present = record { current = current.now; present = present.now }
+-- the places with some contents
+abbrev pub slots_of : List ℤ → List Bool → Slots
+slots_of current present = record { current = current; present = present }
 
-abbrev pub slots_before : Columns ℤ → Columns Bool → Slots
+-- the places in a precondition, and in a promise at entry and at exit
+abbrev pub slots : MutColumn ℤ → MutColumn Bool → Slots
+slots current present = slots_of current.now present.now
+
+abbrev pub slots_before : MutColumns ℤ → MutColumns Bool → Slots
 slots_before current present = slots current.entry present.entry
 
-abbrev pub slots_after : Columns ℤ → Columns Bool → Slots
+abbrev pub slots_after : MutColumns ℤ → MutColumns Bool → Slots
 slots_after current present = slots current.exit present.exit
 
 -- the places at entry with other values, for what goes by presence alone

@@ -7,7 +7,7 @@ pub mod seat;
 ghost use Rattle.std.specs.Prelude.{◌≤◌};
 
 // What a drained sweep gives beside the listing.
-#[derive(Drop)]
+#[derive(Clone, Copy)]
 pub enum Compared {
     // So many events, all as they are listed.
     Agree(usize),

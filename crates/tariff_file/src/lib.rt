@@ -9,7 +9,7 @@ use many_way_rules::{Admission, Pick};
 use rules::Pairing;
 
 // What an operation does with the lists: a two-way join, a join, whose combiner the head gives, or a selection.
-#[derive(Drop)]
+#[derive(Clone, Copy)]
 pub enum Task {
     Pair(Pairing),
     Merge(Admission),
@@ -18,7 +18,7 @@ pub enum Task {
 
 // Why a tariff file is refused. The number is the offset of the record at fault, or of the first byte left over; of one too long it is
 // the most bytes of a file, 45,126.
-#[derive(Drop)]
+#[derive(Clone, Copy)]
 pub enum Refusal {
     TooLong,
     WrongMark(usize),
@@ -32,7 +32,7 @@ pub enum Refusal {
 }
 
 // How a stretch of records ends: past its last byte, or with a refusal.
-#[derive(Drop)]
+#[derive(Clone, Copy)]
 pub enum Passed {
     Past(usize),
     Stopped(Refusal),

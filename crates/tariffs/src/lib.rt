@@ -11,7 +11,7 @@ use form::{Prior, Range, judge_range};
 use rules::{Answer, Judgement, code, number as number_of};
 
 // What is found up to a place of a list: the end of the range before, and the judgement.
-#[derive(Drop)]
+#[derive(Clone, Copy)]
 pub struct Look {
     pub prior: Prior,
     pub found: Judgement,

@@ -14,7 +14,7 @@ use rules::Judgement;
 use tariffs::{Look, begin, found, look_at, next_place};
 
 #[repr(C)]
-#[derive(Drop)]
+#[derive(Clone, Copy)]
 pub struct Tariff {
     pub start: Point,
     pub end: Point,

@@ -3,7 +3,7 @@
 #![tactic(auto)]
 
 ghost use Rattle.std.specs.Prelude.{◌+◌, ◌≡◌, leb, length};
-ghost use Rattle.rules.specs.Paired.{output, before};
+ghost use Rattle.rules.specs.Paired.{columns};
 ghost use Rattle.answer_text.specs.Buffer.{Room, Put};
 ghost use Rattle.text_pairs.specs.Pairs.{pair_text, pairs_text, Pairs};
 
@@ -18,8 +18,8 @@ fn row_width(
     presence: &[u8],
     i: usize,
 ) -> usize
-    requires { Pairs (output start end left right presence) (i + 1) }
-    ensures { result ≡ length (pair_text (before start end left right presence) i) }
+    requires { Pairs (columns start.now end.now left.now right.now presence.now) (i + 1) }
+    ensures { result ≡ length (pair_text (columns start.now end.now left.now right.now presence.now) i) }
 {
     let there = presence[i];
     width(start[i])
@@ -39,8 +39,8 @@ pub fn fit(
     n: usize,
     room: usize,
 ) -> bool
-    requires { Pairs (output start end left right presence) n }
-    ensures { result ≡ leb (length (pairs_text (before start end left right presence) n)) room }
+    requires { Pairs (columns start.now end.now left.now right.now presence.now) n }
+    ensures { result ≡ leb (length (pairs_text (columns start.now end.now left.now right.now presence.now) n)) room }
 {
     let mut spare = room;
     let mut i: usize = 0;
@@ -66,8 +66,8 @@ fn put_row(
     place: usize,
     out: &mut [u8],
 ) -> usize
-    requires { Pairs (output start end left right presence) (i + 1) × Room place (pair_text (output start end left right presence) i) out.old }
-    ensures { Put place (pair_text (before start end left right presence) i) out.old out.new result }
+    requires { Pairs (columns start.now end.now left.now right.now presence.now) (i + 1) × Room place (pair_text (columns start.now end.now left.now right.now presence.now) i) out.old }
+    ensures { Put place (pair_text (columns start.now end.now left.now right.now presence.now) i) out.old out.new result }
 {
     let there = presence[i];
     let second = put_field(start[i], b' ', place, out);
@@ -87,8 +87,8 @@ pub fn put_rows(
     place: usize,
     out: &mut [u8],
 ) -> usize
-    requires { Pairs (output start end left right presence) n × Room place (pairs_text (output start end left right presence) n) out.old }
-    ensures { Put place (pairs_text (before start end left right presence) n) out.old out.new result }
+    requires { Pairs (columns start.now end.now left.now right.now presence.now) n × Room place (pairs_text (columns start.now end.now left.now right.now presence.now) n) out.old }
+    ensures { Put place (pairs_text (columns start.now end.now left.now right.now presence.now) n) out.old out.new result }
 {
     let mut at = place;
     let mut i: usize = 0;

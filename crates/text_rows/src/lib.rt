@@ -3,8 +3,8 @@
 #![tactic(auto)]
 
 ghost use Rattle.std.specs.Prelude.{◌≡◌, length};
-ghost use Rattle.rules.specs.Merged.{output, before};
-ghost use Rattle.rules.specs.Paired.{output as pair-output, before as pair-before};
+ghost use Rattle.rules.specs.Merged.{columns};
+ghost use Rattle.rules.specs.Paired.{columns as pair_columns};
 ghost use Rattle.answer_text.specs.Answers.{merged_text, paired_text, refusal_text};
 ghost use Rattle.answer_text.specs.Buffer.{Room, Put, leaves, print};
 ghost use Rattle.text_pairs.specs.Pairs.{Pairs};
@@ -48,8 +48,8 @@ pub fn print_merged(
     n: usize,
     out: &mut [u8],
 ) -> usize
-    requires { Rows (output start end value) n }
-    ensures { leaves result out.new ≡ print (merged_text operation combiner lists (before start end value) n) out.old }
+    requires { Rows (columns start.now end.now value.now) n }
+    ensures { leaves result out.new ≡ print (merged_text operation combiner lists (columns start.now end.now value.now) n) out.old }
 {
     let head = header_width(operation, combiner, lists, n);
     if out.len() < head {
@@ -76,9 +76,9 @@ pub fn print_paired(
     n: usize,
     out: &mut [u8],
 ) -> usize
-    requires { Pairs (pair-output start end left right presence) n }
+    requires { Pairs (pair_columns start.now end.now left.now right.now presence.now) n }
     ensures { leaves result out.new
-        ≡ print (paired_text operation combiner lists (pair-before start end left right presence) n) out.old }
+        ≡ print (paired_text operation combiner lists (pair_columns start.now end.now left.now right.now presence.now) n) out.old }
 {
     let head = header_width(operation, combiner, lists, n);
     if out.len() < head {

@@ -1,7 +1,7 @@
 // The rows of a many-way answer: how many bytes they take, and their bytes from a place on.
 
 ghost use Rattle.std.specs.Prelude.{◌+◌, ◌≡◌, leb, length};
-ghost use Rattle.rules.specs.Merged.{output, before};
+ghost use Rattle.rules.specs.Merged.{columns};
 ghost use Rattle.answer_text.specs.Buffer.{Room, Put};
 ghost use Rattle.text_rows.specs.Parts.{row_text, rows_text, Rows};
 
@@ -9,16 +9,16 @@ use text_fields::{put_field, width};
 
 // How many bytes the row at an index takes.
 fn row_width(start: &[i64], end: &[i64], value: &[i64], i: usize) -> usize
-    requires { Rows (output start end value) (i + 1) }
-    ensures { result ≡ length (row_text (before start end value) i) }
+    requires { Rows (columns start.now end.now value.now) (i + 1) }
+    ensures { result ≡ length (row_text (columns start.now end.now value.now) i) }
 {
     width(start[i]) + width(end[i]) + width(value[i]) + 3
 }
 
 // Whether the first n rows fit.
 pub fn fit(start: &[i64], end: &[i64], value: &[i64], n: usize, room: usize) -> bool
-    requires { Rows (output start end value) n }
-    ensures { result ≡ leb (length (rows_text (before start end value) n)) room }
+    requires { Rows (columns start.now end.now value.now) n }
+    ensures { result ≡ leb (length (rows_text (columns start.now end.now value.now) n)) room }
 {
     let mut spare = room;
     let mut i: usize = 0;
@@ -42,8 +42,8 @@ fn put_row(
     place: usize,
     out: &mut [u8],
 ) -> usize
-    requires { Rows (output start end value) (i + 1) × Room place (row_text (output start end value) i) out.old }
-    ensures { Put place (row_text (before start end value) i) out.old out.new result }
+    requires { Rows (columns start.now end.now value.now) (i + 1) × Room place (row_text (columns start.now end.now value.now) i) out.old }
+    ensures { Put place (row_text (columns start.now end.now value.now) i) out.old out.new result }
 {
     let second = put_field(start[i], b' ', place, out);
     let third = put_field(end[i], b' ', second, out);
@@ -59,8 +59,8 @@ pub fn put_rows(
     place: usize,
     out: &mut [u8],
 ) -> usize
-    requires { Rows (output start end value) n × Room place (rows_text (output start end value) n) out.old }
-    ensures { Put place (rows_text (before start end value) n) out.old out.new result }
+    requires { Rows (columns start.now end.now value.now) n × Room place (rows_text (columns start.now end.now value.now) n) out.old }
+    ensures { Put place (rows_text (columns start.now end.now value.now) n) out.old out.new result }
 {
     let mut at = place;
     let mut i: usize = 0;

@@ -12,20 +12,20 @@ pub const RIGHT: usize = 2;
 pub const BOTH: usize = 3;
 
 // What is left of a list: its range at a place, from a start on, and the ranges after it.
-#[derive(Drop)]
+#[derive(Clone, Copy)]
 pub struct Side {
     pub at: usize,
     pub start: u64,
 }
 
-#[derive(Drop)]
+#[derive(Clone, Copy)]
 pub struct Cursor {
     pub left: Side,
     pub right: Side,
 }
 
 // A piece with the places of the ranges that cover it; the place of a missing side means nothing.
-#[derive(Drop)]
+#[derive(Clone, Copy)]
 pub struct Pair {
     pub start: u64,
     pub end: u64,
@@ -35,7 +35,7 @@ pub struct Pair {
 }
 
 // The next piece and what is left then, or that there is none.
-#[derive(Drop)]
+#[derive(Clone, Copy)]
 pub enum NextPair {
     Next(Pair, Cursor),
     Done,

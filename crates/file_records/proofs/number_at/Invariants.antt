@@ -1,0 +1,15 @@
+-- `file_records::number_at` meets its contract: the bytes passed write the number. Assumes nothing.
+use Prim.Native.Nat.{◌-◌, ◌^◌, ◌≤◌, ◌<◌}
+use mathlib.Core.Path.{◌≡◌, sym}
+use native.Mathlib.Omega.{arith}
+use lib.ListN.{get_or, take, drop}
+use Rattle.tariff_file.specs.Layout.{number}
+use Rattle.tariff_file.proofs.Places.{number_start}
+use Rattle.file_records.proofs.Numbers.{byte_fits, byte_more, number_next}
+use Rattle.file_records.proofs.number_at.Given as goal
+
+abbrev pub invariant-loop-i : goal.invariant-loop-i
+invariant-loop-i l = (l.i ≤ l.k) × (l.n ≡ number (take l.i (drop l.at l.file))) × (l.n < 256 ^ l.i)
+
+abbrev pub decreases-loop-i : goal.decreases-loop-i
+decreases-loop-i l = l.k - l.i

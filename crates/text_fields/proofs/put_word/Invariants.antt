@@ -1,0 +1,16 @@
+-- `put_word` meets its contract: the bytes passed are pasted. Assumes nothing.
+use Prim.Native.Nat.{ℕ, ◌+◌, ◌-◌, ◌≤◌, zero-le}
+use mathlib.Core.Path.{◌≡◌, refl, sym, ap, ◌∙◌}
+use mathlib.Core.List.{List}
+use native.Mathlib.Omega.{arith}
+use native.Mathlib.Numerals.{add-one}
+use lib.ListN.{length, set, get_or, length-set}
+use lib.Seq.{paste, paste-zero, paste-suc}
+use Rattle.text_fields.proofs.Buffer.{put_copy}
+use Rattle.text_fields.proofs.put_word.Given as goal
+
+abbrev pub invariant-loop-i : goal.invariant-loop-i
+invariant-loop-i l = (length l.out ≡ length l.initial.out) × (l.i ≤ length l.word) × (l.out ≡ paste l.initial.out l.place l.word l.i)
+
+abbrev pub decreases-loop-i : goal.decreases-loop-i
+decreases-loop-i l = length l.word - l.i

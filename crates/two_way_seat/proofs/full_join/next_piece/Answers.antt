@@ -1,0 +1,66 @@
+-- `two_way_seat::full_join::next_piece` meets its contract: each way takes off the piece that comes next. Assumes nothing.
+use mathlib.Core.Path.{refl}
+use native.Mathlib.Omega.{arith}
+use borrow.Author.Rules.{rules}
+use Rattle.rules.specs.Lists.{seats}
+use Rattle.rules.specs.declared.Pairing.TheVariants.{Full}
+use Rattle.two_way.specs.Sides.{two_of}
+use Rattle.two_way.proofs.Emit.{emitted}
+use Rattle.two_way.proofs.Next.{Ranges, left_prefix, left_alone, right_prefix, right_alone, both_start, both_done}
+use Rattle.two_way_seat.proofs.full_join.next_piece.Goals as goal
+
+start : Read → tie.Start
+start r = search
+
+abbrev left_read : Read → tie.After-key-at
+left_read r = r.before.before
+
+-- both lists have a range left there
+ranges : (r : Read) → Ranges (two_of seats (start r).args.starts.now (start r).args.ends.now (start r).args.middle) (start r).args.cursor (left_read r).key_at.result r.key-at2.result
+unfolding start
+ranges r =
+    record { ready = (start r).requires; left = (left_read r).before.if1.true; right = r.before.if2.true; left_end = (left_read r).key_at.ensures; right_end = r.key-at2.ensures }
+
+pub emit-requires : goal.emit-requires
+emit-requires c =
+    (left_prefix (ranges r) Full refl c.if-left_start-right_start.true c.earlier-end.ensures).covering
+
+pub returns-then-left_start-right_start : goal.returns-then-left_start-right_start
+returns-then-left_start-right_start c =
+    emitted (left_prefix (ranges r) Full refl c.if-left_start-right_start.true c.earlier-end.ensures) c.emit.result c.emit.ensures
+
+pub emit-requires-then-right_start-left_start : goal.emit-requires-then-right_start-left_start
+emit-requires-then-right_start-left_start c =
+    (right_prefix (ranges r) c.if-right_start-left_start.true c.earlier-end-then-right_start-left_start.ensures).covering
+
+pub returns-then-right_start-left_start : goal.returns-then-right_start-left_start
+returns-then-right_start-left_start c =
+    emitted (right_prefix (ranges r) c.if-right_start-left_start.true c.earlier-end-then-right_start-left_start.ensures) c.emit-then-right_start-left_start.result c.emit-then-right_start-left_start.ensures
+
+pub emit-requires-then-ra-starts : goal.emit-requires-then-ra-starts
+emit-requires-then-ra-starts c =
+    (both_start (ranges r) (omega (arith, c.if-right_start-left_start.false, c.if-left_start-right_start.false)) c.earlier-end-then-ra-starts.ensures).covering
+
+pub returns-then-ra-starts : goal.returns-then-ra-starts
+returns-then-ra-starts c =
+    emitted (both_start (ranges r) (omega (arith, c.if-right_start-left_start.false, c.if-left_start-right_start.false)) c.earlier-end-then-ra-starts.ensures) c.emit-then-ra-starts.result c.emit-then-ra-starts.ensures
+
+pub emit-requires-then-la-middle : goal.emit-requires-then-la-middle
+emit-requires-then-la-middle c =
+    (left_alone c.requires Full refl c.if-la-middle.true c.key_at-left_end.ensures c.if-ra-starts.false).covering
+
+pub returns-then-la-middle : goal.returns-then-la-middle
+returns-then-la-middle c =
+    emitted (left_alone c.requires Full refl c.if-la-middle.true c.key_at-left_end.ensures c.if-ra-starts.false) c.emit-then-la-middle.result c.emit-then-la-middle.ensures
+
+pub emit-requires-then-ra-starts-2 : goal.emit-requires-then-ra-starts-2
+emit-requires-then-ra-starts-2 c =
+    (right_alone c.requires c.if-ra-starts-2.true c.key_at-right_end-then-ra-starts-2.ensures c.if-la-middle.false).covering
+
+pub returns-then-ra-starts-2 : goal.returns-then-ra-starts-2
+returns-then-ra-starts-2 c =
+    emitted (right_alone c.requires c.if-ra-starts-2.true c.key_at-right_end-then-ra-starts-2.ensures c.if-la-middle.false) c.emit-then-ra-starts-2.result c.emit-then-ra-starts-2.ensures
+
+pub returns : goal.returns
+returns c =
+    both_done c.requires Full c.if-la-middle.false c.if-ra-starts-2.false
