@@ -2,6 +2,10 @@
 
 #![tactic(auto)]
 
+ghost use Rattle.std.specs.Prelude.{◌≤◌, length, IfOk};
+
+use std::io::{self, Read, Write};
+
 use join_file::join_file;
 
 // A byte more than the longest file, so that a longer one is told.
@@ -10,18 +14,25 @@ const MOST: usize = 45127;
 // Room for the longest text.
 const ROOM: usize = 249806;
 
-fn main() {
+// Reads until the buffer is full or the input ends. Says how many bytes came.
+fn read_full<R: Read>(input: &mut R, buffer: &mut [u8]) -> io::Result<usize>
+    ensures { IfOk result (λ n. n ≤ length buffer.new) }
+{
+    let mut length = 0;
+    while length < buffer.len() {
+        let count = input.read(&mut buffer[length..])?;
+        if count == 0 {
+            break;
+        }
+        length += count;
+    }
+    Ok(length)
+}
+
+fn main(rt: HostRuntime) -> io::Result<()> {
     let mut file: [u8; MOST] = [0; MOST];
     let mut text: [u8; ROOM] = [0; ROOM];
-    let length = io::read_full(libc::STDIN_FILENO, &mut file);
-    // Short of that many bytes, one read more tells the end, where it gives none, from an error.
-    let mut more: [u8; 1] = [0; 1];
-    if length < MOST && libc::read(libc::STDIN_FILENO, &mut more) < 0 {
-        os::fail(b"standard input");
-        return;
-    }
+    let length = read_full(&mut rt.stdin(), &mut file)?;
     let count = join_file(&file[..length], &mut text);
-    if !io::write_all(libc::STDOUT_FILENO, &text[..count]) {
-        os::fail(b"standard output");
-    }
+    rt.stdout().write_all(&text[..count])
 }

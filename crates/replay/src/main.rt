@@ -3,7 +3,10 @@
 
 #![tactic(auto)]
 
-ghost use Rattle.std.specs.Prelude.{◌≤◌, length as ListN·length};
+ghost use Rattle.std.specs.Prelude.{◌≤◌, IfOk, length as list_length};
+
+use std::fs;
+use std::io::Read;
 
 use join_file::join_file;
 
@@ -50,7 +53,7 @@ fn agrees(file: &[u8], want: &[u8]) -> bool {
 
 // The file and the text at the front of what is left of the list.
 fn replay_next(rest: &[u8]) -> Turn
-    ensures { result.length ≤ ListN·length rest.now }
+    ensures { result.length ≤ list_length rest.now }
 {
     let broken = Turn {
         agrees: false,
@@ -100,11 +103,11 @@ fn replay(list: &[u8]) -> Tally {
 }
 
 fn say(words: &[u8]) {
-    io::write_all(libc::STDOUT_FILENO, words);
+    io::write_all(1, words);
 }
 
 fn say_number(n: u64) {
-    io::print_decimal(libc::STDOUT_FILENO, n);
+    io::print_decimal(1, n);
 }
 
 // Says what came of the list.
@@ -123,18 +126,28 @@ fn report(tally: Tally) {
     }
 }
 
-fn main() {
-    let fd = os::open_read(b"answers.bin");
-    if fd < 0 {
-        os::fail(b"answers.bin");
-        return;
+// Reads until the buffer is full or the file ends. Says how many bytes came.
+fn read_full<R: Read>(input: &mut R, buffer: &mut [u8]) -> std::io::Result<usize>
+    ensures { IfOk result (λ n. n ≤ list_length buffer.new) }
+{
+    let mut length = 0;
+    while length < buffer.len() {
+        let count = input.read(&mut buffer[length..])?;
+        if count == 0 {
+            break;
+        }
+        length += count;
     }
+    Ok(length)
+}
+
+fn main(rt: HostRuntime) -> std::io::Result<()> {
     let mut list: [u8; LIST_ROOM] = [0; LIST_ROOM];
-    let length = io::read_full(fd, &mut list);
-    libc::close(fd);
+    let length = read_full(&mut fs::open(&rt, "answers.bin")?, &mut list)?;
     if length == LIST_ROOM {
         say(b"the list has more bytes than there is room for\n");
-        return;
+        return Ok(());
     }
     report(replay(&list[..length]));
+    Ok(())
 }
