@@ -14,6 +14,6 @@ returns t c =
     climb_stays
     c.put-2.ensures
     (elim c.if-place-gt0.branch [
-      then-place-gt0+else-earlier w ↦ one_parent _ ((c.args.place - 1) / 2) (omega arith) (w.earlier.ensures.no w.if-earlier.false)
-    | else-place-gt0 w ↦ λ q u. absurd (omega arith)
+      | then-place-gt0+else-earlier w ↦ one_parent _ ((c.args.place - 1) / 2) (omega arith) (w.earlier.ensures.no w.if-earlier.false)
+      | else-place-gt0 w ↦ λ q u. absurd (omega arith)
     ])

@@ -13,6 +13,6 @@ returns t c =
     sift_stays
     c.put-2.ensures
     (elim c.if-place-len.branch [
-      then-place-len+else-earlier w ↦ λ i u l. omega (arith, w.lesser-child.ensures.least i u l, w.earlier.ensures.no w.if-earlier.false)
-    | else-place-len w ↦ λ i u l. absurd (omega arith)
+      | then-place-len+else-earlier w ↦ λ i u l. omega (arith, w.lesser-child.ensures.least i u l, w.earlier.ensures.no w.if-earlier.false)
+      | else-place-len w ↦ λ i u l. absurd (omega arith)
     ])
