@@ -1,6 +1,7 @@
 // A min-heap of at most 16 entries (key, list), the least on top, at place 0, in two arrays that the caller lends, and a length.
 
 #![tactic(auto)]
+
 ghost use Rattle.std.specs.Prelude.{◌+◌, ◌*◌, ◌<◌, ◌≤◌};
 ghost use Rattle.integer.specs.Order.{Less};
 ghost use Rattle.heap.specs.Heap.{rank, entries_of, entries, entries_before, entries_after, Whole, Heap, Pushed, Popped, Topped};

@@ -112,6 +112,7 @@ module _ {A : Type 0} where
 
   -- a range's end finds its list with a value, and a start finds it without
   own_ends : (k p b n : ℕ) (l : List (Piece A)) → Within b n l → In (ends p k) (own k l) → (v : A) × (track k (2 * p + 1) (own k l) none ≡ some v)
+  own_ends k p b n [] w x'' = elim x'' [ ]
   own_ends k p b n (x ∷ xs) w (inl q) = let z : ◌≡◌ {A = ℕ} 0 1 = cc in absurd (omega arith)
   own_ends k p b n (x ∷ xs) w (inr (inl q)) =
       let s : p ≡ x.end = cc in
@@ -122,6 +123,7 @@ module _ {A : Type 0} where
       (r.0, own_both k (2 * p + 1) x xs (omega arith) none ∙ r.1)
 
   own_starts : (k p b n : ℕ) (v : A) (l : List (Piece A)) → Within b n l → In (starts p k v) (own k l) → track k (2 * p) (own k l) none ≡ none
+  own_starts k p b n v [] w x'' = elim x'' [ ]
   own_starts k p b n v (x ∷ xs) w (inl q) =
       let s : p ≡ x.start = cc in
       let w' : Within x.start n (x ∷ xs) = (omega arith, w.1, w.2) in
@@ -166,6 +168,7 @@ module _ {A : Type 0} where
 
   -- an event is of one of the lists
   listed_in : (e : Event A) (k : ℕ) (ls : List (List (Piece A))) → In e (listed k ls) → (i : ℕ) × (list e ≡ k + i) × (i < length ls) × In e (own (list e) (get_or ls i []))
+  listed_in e k [] m = elim m [ ]
   listed_in e k (l ∷ ls) m = go (λ j. listed_in e (suc k) ls j) (in_append e (own k l) (listed (suc k) ls) m)
     where
       go : (In e (listed (suc k) ls) → (i : ℕ) × (list e ≡ suc k + i) × (i < length ls) × In e (own (list e) (get_or ls i []))) → In e (own k l) ⊎ In e (listed (suc k) ls) → (i : ℕ) × (list e ≡ k + i) × (i < length (l ∷ ls)) × In e (own (list e) (get_or (l ∷ ls) i []))

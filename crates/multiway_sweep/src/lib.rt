@@ -30,7 +30,7 @@ pub enum Step {
 
 // Where a sweep stands: of the list k the place of its next range (the cursor at k) and the place past its last (at 16 + k), a
 // heap of the starts of the next ranges, and a heap of the ends of the active ones.
-#[derive(Drop)]
+#[derive(Clone, Copy)]
 pub struct Sweep {
     pub cursors: [usize; 32],
     pub start_keys: [u64; 16],

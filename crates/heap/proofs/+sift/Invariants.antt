@@ -1,0 +1,5 @@
+use Prim.Native.Nat.{◌-◌}
+use Rattle.heap.proofs.+sift.Given as goal
+
+abbrev pub decreases-sift : goal.decreases-sift
+decreases-sift l = 16 - l.place
