@@ -1,6 +1,7 @@
 // Combiners at their ends. Each case names the combiners whose answers are right.
 
 #![tactic(auto)]
+
 use combine::{Combined, combine};
 
 // What each combiner is to answer.

@@ -1,12 +1,7 @@
 -- `combine::count` meets its contract: the number is that of the values in the places passed. Assumes nothing.
-use Prim.Native.Nat.{◌+◌, ◌≤◌}
-use mathlib.Core.Path.{◌≡◌, refl}
-use mathlib.Core.List.{List}
+use mathlib.Core.Path.{refl}
 use native.Mathlib.Omega.{arith}
-use lib.IntN.{ℤ}
-use lib.ListN.{length}
-use Rattle.rules.specs.Piece as pieces
-use Rattle.slots.proofs.Kept.{Kept, kept_start, kept_there, kept_missing, kept_end}
+use Rattle.slots.proofs.Kept.{kept_start, kept_there, kept_missing, kept_end}
 use Rattle.combine.proofs.Laws.{numbered}
 use Rattle.combine.proofs.count.Goals as goal
 

@@ -3,12 +3,9 @@ use Prim.Native.Nat.{◌-◌}
 use native.Mathlib.Omega.{arith}
 use lib.IntN.{pos}
 use lib.ListN.{get_or}
-use mir.Syntax.{w64}
-use mir.Val.{to_z}
 use Rattle.integer.proofs.Laws.{wide}
-use Rattle.rules.specs.Piece as pieces
-use Rattle.slots.proofs.Kept.{Kept, kept_start, kept_there, kept_missing, kept_end}
-use Rattle.combine.proofs.Laws.{Total, total_first, total_skip, summed, total_fits, total_more}
+use Rattle.slots.proofs.Kept.{kept_start, kept_there, kept_missing, kept_end}
+use Rattle.combine.proofs.Laws.{total_first, total_skip, summed, total_fits, total_more}
 use Rattle.combine.proofs.sum.Goals as goal
 
 pub loop-i-init : goal.loop-i-init

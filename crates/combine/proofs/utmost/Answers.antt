@@ -1,14 +1,10 @@
 -- `combine::utmost` meets its contract: the best is the largest weight of the places passed. Assumes nothing.
-use Prim.Native.Nat.{◌≤◌, ◌-◌}
 use mathlib.Core.Path.{◌∙◌}
-use mathlib.Core.Logic.{⊎_elim}
 use native.Mathlib.Omega.{arith}
-use borrow.Author.Rules.{rules}
-use mir.Syntax.{w32}
-use mir.Val.{to_z}
 use Rattle.integer.proofs.Laws.{wide}
-use Rattle.combine.proofs.Weights.{Best, best_first, best_next, best_all, best_some, lower_some, counted_some, counted_none}
+use Rattle.combine.proofs.Weights.{best_first, best_next, best_all, best_some, lower_some, counted_some, counted_none}
 use Rattle.combine.proofs.utmost.Goals as goal
+use Rattle.combine.proofs.utmost.Goals.{then-best-le-LOWEST+else-count-eq0, else-best-le-LOWEST}
 
 pub loop-i-init : goal.loop-i-init
 loop-i-init c =
@@ -30,4 +26,7 @@ pub returns : goal.returns
 returns c =
     let g = best_all c.loop-i.invariant.0 c.loop-i-test.false c.loop-i.invariant.1 in
     (wide c.mirrored.result c.mirrored.type_inv).1 ∙ c.mirrored.ensures
-    ∙ best_some g (⊎_elim (λ p. counted_some (p.1.ensures c.args.current.now) p.2.left) (λ p. lower_some g p.left) c.if-best-le-LOWEST.branch)
+    ∙ best_some g (elim c.if-best-le-LOWEST.branch [
+      | then-best-le-LOWEST+else-count-eq0 w ↦ counted_some (w.count.ensures c.args.current.now) w.if-count-eq0.false
+      | else-best-le-LOWEST w ↦ lower_some g w.if-best-le-LOWEST.false
+    ])
