@@ -33,10 +33,6 @@ pub unnamed : (o : ℕ) → (0 < o → 7 < o) → task_of o ≡ none
 unnamed zero h = refl
 unnamed (suc n) h = past_none operations n (omega (arith, h (omega arith)))
 
--- a number from k on that is not k
-pub beyond : (k o : ℕ) → (o ≡ k → ⊥) → k ≤ o → suc k ≤ o
-beyond k o n h = omega arith
-
 -- the tests in turn, of a head whose operation does k
 pub record Tests (o c n : ℕ) (k : Task) : Type 0 where
   pub over : 16 < n → Judges o c n (Refused (TooManyLists 0))

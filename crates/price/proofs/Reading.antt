@@ -2,15 +2,13 @@
 use Prim.Native.Nat.{ℕ, zero, suc, ◌+◌, ◌≤◌, ◌<◌}
 use mathlib.Core.Path.{◌≡◌, refl, sym, ap, ◌∙◌}
 use mathlib.Core.Logic.{◌⊎◌, inl, inr}
-use mathlib.Core.Bool.{cond, ◌&&◌}
 use mathlib.Core.Option.{Option, none, some}
 use mathlib.Core.List.{List, [], ◌∷◌, ◌++◌, map}
 use native.Mathlib.Omega.{arith}
-use lib.Dec.{leb}
 use lib.IntN.{ℤ, pos}
 use lib.ListN.{length, get_or, drop, length-append, length-map}
 use borrow.Author.Tests.{le-leb, lt-leb, lt-ltb}
-use Rattle.rules.specs.Piece.{Piece, Range, at, holds, Within}
+use Rattle.rules.specs.Piece.{Piece, Range, at, Within}
 use Rattle.rules.specs.Lists.{Width, keys, range, ranges}
 use Rattle.rules.specs.Merged.{Merged, lay}
 use Rattle.rules.proofs.At.{at_in, at_before, at_after, le_or_lt, within_le}

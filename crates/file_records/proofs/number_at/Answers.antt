@@ -1,9 +1,7 @@
 -- `file_records::number_at` meets its contract: the bytes passed write the number. Assumes nothing.
-use Prim.Native.Nat.{◌-◌, ◌^◌, ◌≤◌, ◌<◌}
 use mathlib.Core.Path.{◌≡◌, sym}
 use native.Mathlib.Omega.{arith}
-use lib.ListN.{get_or, take, drop}
-use Rattle.tariff_file.specs.Layout.{number}
+use lib.ListN.{get_or}
 use Rattle.tariff_file.proofs.Places.{number_start}
 use Rattle.file_records.proofs.Numbers.{byte_fits, byte_more, number_next}
 use Rattle.file_records.proofs.number_at.Goals as goal
@@ -18,17 +16,17 @@ overflow_mul-n c =
 
 pub overflow_cast-n : goal.overflow_cast-n
 overflow_cast-n c =
-    omega (arith, c.shared_slice_known-1.given c.place_of-place.result)
+    omega (arith, c.type_inv.file c.place_of-place.result)
 
 pub overflow_add-n : goal.overflow_add-n
 overflow_add-n c =
-    omega (arith, byte_fits c.loop-i.i c.loop-i.n 255 (omega arith) c.loop-i.invariant.2 (omega arith), c.shared_slice_known-1.given c.place_of-place.result)
+    omega (arith, byte_fits c.loop-i.i c.loop-i.n 255 (omega arith) c.loop-i.invariant.2 (omega arith), c.type_inv.file c.place_of-place.result)
 
 pub loop-i-preserved : goal.loop-i-preserved
 loop-i-preserved c =
     let a = c.args in
     let m = c.place_of-place.result in
-    (omega arith, number_next a.file.now a.at c.loop-i.i c.loop-i.n m (omega arith) c.place_of-place.ensures c.loop-i.invariant.1, byte_more c.loop-i.i c.loop-i.n (get_or a.file.now m 0) c.loop-i.invariant.2 (omega (arith, c.shared_slice_known-1.given m)))
+    (omega arith, number_next a.file.now a.at c.loop-i.i c.loop-i.n m (omega arith) c.place_of-place.ensures c.loop-i.invariant.1, byte_more c.loop-i.i c.loop-i.n (get_or a.file.now m 0) c.loop-i.invariant.2 (omega (arith, c.type_inv.file m)))
 
 pub returns : goal.returns
 returns c =

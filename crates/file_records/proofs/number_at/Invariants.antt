@@ -1,11 +1,8 @@
 -- `file_records::number_at` meets its contract: the bytes passed write the number. Assumes nothing.
 use Prim.Native.Nat.{◌-◌, ◌^◌, ◌≤◌, ◌<◌}
-use mathlib.Core.Path.{◌≡◌, sym}
-use native.Mathlib.Omega.{arith}
-use lib.ListN.{get_or, take, drop}
+use mathlib.Core.Path.{◌≡◌}
+use lib.ListN.{take, drop}
 use Rattle.tariff_file.specs.Layout.{number}
-use Rattle.tariff_file.proofs.Places.{number_start}
-use Rattle.file_records.proofs.Numbers.{byte_fits, byte_more, number_next}
 use Rattle.file_records.proofs.number_at.Given as goal
 
 abbrev pub invariant-loop-i : goal.invariant-loop-i

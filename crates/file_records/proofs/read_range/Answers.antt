@@ -1,9 +1,6 @@
 -- `file_records::read_range` meets its contract. Assumes nothing.
-use Prim.Native.Nat.{◌+◌, ◌≤◌}
 use mathlib.Core.Path.{refl, ap, ◌∙◌}
 use native.Mathlib.Omega.{arith}
-use borrow.Author.Rules.{rules}
-use lib.ListN.{length}
 use mir.Syntax.{w64}
 use Rattle.tariff_file.specs.Layout.{integer}
 use Rattle.file_records.proofs.Numbers.{field_back, value_back}

@@ -1,9 +1,6 @@
 -- `file_records::read_ranges` meets its contract: the ranges read stand in the columns. Assumes nothing.
-use Prim.Native.Nat.{◌-◌}
-use mathlib.Core.Path.{◌∙◌}
 use native.Mathlib.Omega.{arith}
-use borrow.Author.Rules.{rules}
-use Rattle.file_records.proofs.Ranges.{Reading, reading_first, reading_more, reading_stops, reading_last}
+use Rattle.file_records.proofs.Ranges.{reading_first, reading_more, reading_stops, reading_last}
 use Rattle.file_records.proofs.read_ranges.Goals as goal
 
 pub loop-i-init : goal.loop-i-init
@@ -28,7 +25,7 @@ overflow_add-i c =
 
 pub loop-i-preserved : goal.loop-i-preserved
 loop-i-preserved c =
-    reading_more _ _ _ _ _ _ _ _ c.loop-i.invariant c.loop-i-test.true _ c.read_range-found.result c.read_range-found.ensures (let k = c.read_range-found.kept.1.1.1 in (k.0, (k.1.0, (k.1.1.0, tt)))) _ c.in-Past.is
+    reading_more _ _ _ _ _ _ _ _ c.loop-i.invariant c.loop-i-test.true _ c.read_range-found.result c.read_range-found.ensures (let k = c.read_range-found.auto in (k.starts, (k.ends, (k.values, tt)))) _ c.in-Past.is
 
 pub returns : goal.returns
 returns c =

@@ -1,9 +1,6 @@
 -- `file_records::read_ranges` meets its contract: the ranges read stand in the columns. Assumes nothing.
 use Prim.Native.Nat.{◌-◌}
-use mathlib.Core.Path.{◌∙◌}
-use native.Mathlib.Omega.{arith}
-use borrow.Author.Rules.{rules}
-use Rattle.file_records.proofs.Ranges.{Reading, reading_first, reading_more, reading_stops, reading_last}
+use Rattle.file_records.proofs.Ranges.{Reading}
 use Rattle.file_records.proofs.read_ranges.Given as goal
 
 abbrev pub invariant-loop-i : goal.invariant-loop-i

@@ -1,5 +1,4 @@
 -- `file_records::signed` meets its contract. Assumes nothing.
-use borrow.Author.Rules.{rules}
 use Rattle.file_records.proofs.Numbers.{signed_low, down_fits, signed_high}
 use Rattle.file_records.proofs.signed.Goals as goal
 
