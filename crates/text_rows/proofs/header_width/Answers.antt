@@ -2,7 +2,6 @@
 use mathlib.Core.Path.{ap}
 use native.Mathlib.Omega.{arith}
 use lib.ListN.{length, length-append}
-use borrow.Author.Rules.{rules}
 use Rattle.text_rows.proofs.Prints.{header_fields}
 use Rattle.text_rows.proofs.header_width.Goals as goal
 

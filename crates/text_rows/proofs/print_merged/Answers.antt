@@ -1,13 +1,7 @@
 -- `print_merged` meets its contract: the header, then the rows. Assumes nothing.
-use Prim.Native.Nat.{ℕ}
-use mathlib.Core.List.{List}
 use native.Mathlib.Omega.{arith}
-use lib.IntN.{ℤ}
-use borrow.Author.Rules.{rules}
-use Rattle.rules.specs.Merged.{Merged, columns}
-use Rattle.answer_text.specs.Answers.{merged_text}
-use Rattle.text_rows.specs.Parts.{header_text, rows_text}
-use Rattle.text_rows.proofs.Prints.{Halves, first_unfit, second_unfit, first_room, second_room, both_printed, merged_parts}
+use Rattle.rules.specs.Merged.{columns}
+use Rattle.text_rows.proofs.Prints.{first_unfit, second_unfit, first_room, second_room, both_printed, merged_parts}
 use Rattle.text_rows.proofs.print_merged.Goals as goal
 
 pub returns-then-out-head : goal.returns-then-out-head

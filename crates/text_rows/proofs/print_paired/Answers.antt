@@ -1,14 +1,7 @@
 -- `print_paired` meets its contract: the header, then the rows. Assumes nothing.
-use Prim.Native.Nat.{ℕ}
-use mathlib.Core.List.{List}
 use native.Mathlib.Omega.{arith}
-use lib.IntN.{ℤ}
-use borrow.Author.Rules.{rules}
-use Rattle.rules.specs.Paired.{Paired, columns}
-use Rattle.answer_text.specs.Answers.{paired_text}
-use Rattle.text_rows.specs.Parts.{header_text}
-use Rattle.text_pairs.specs.Pairs.{pairs_text}
-use Rattle.text_rows.proofs.Prints.{Halves, first_unfit, second_unfit, first_room, second_room, both_printed, paired_parts}
+use Rattle.rules.specs.Paired.{columns}
+use Rattle.text_rows.proofs.Prints.{first_unfit, second_unfit, first_room, second_room, both_printed, paired_parts}
 use Rattle.text_rows.proofs.print_paired.Goals as goal
 
 pub returns-then-out-head : goal.returns-then-out-head

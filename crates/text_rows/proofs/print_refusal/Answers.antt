@@ -1,12 +1,11 @@
 -- `print_refusal` meets its contract: a word and two numbers, one after the other. Assumes nothing.
-use Prim.Native.Nat.{ℕ, ◌≤◌}
+use Prim.Native.Nat.{ℕ, ◌+◌, ◌≤◌}
 use mathlib.Core.Path.{◌≡◌, ap}
 use mathlib.Core.List.{List, [], ◌∷◌, ◌++◌}
 use native.Mathlib.Omega.{arith}
 use lib.ListN.{length, length-append}
-use borrow.Author.Rules.{rules}
 use Rattle.answer_text.specs.Numbers.{decimal}
-use Rattle.answer_text.specs.Answers.{refusal, refusal_text}
+use Rattle.answer_text.specs.Answers.{refusal_text}
 use Rattle.answer_text.specs.Buffer.{Put}
 use Rattle.text_fields.proofs.Parts.{Going, begin, next_room, step, finish}
 use Rattle.text_rows.proofs.Prints.{refusal_fields, printed, unprinted}

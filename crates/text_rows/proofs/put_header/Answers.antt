@@ -1,9 +1,7 @@
 -- `put_header` meets its contract: a word and four numbers, one after the other. Assumes nothing.
 use Prim.Native.Nat.{ℕ}
 use mathlib.Core.List.{List, [], ◌∷◌, ◌++◌}
-use borrow.Author.Rules.{rules}
 use Rattle.answer_text.specs.Numbers.{decimal}
-use Rattle.answer_text.specs.Answers.{header}
 use Rattle.answer_text.specs.Buffer.{Room, Put}
 use Rattle.text_rows.specs.Parts.{header_text}
 use Rattle.text_fields.proofs.Parts.{Going, begin, next_room, step, finish}

@@ -1,11 +1,7 @@
 -- `fit` meets its contract: the lines of the rows passed and what is spare make up the room. Assumes nothing.
-use Prim.Native.Nat.{ℕ, ◌+◌, ◌-◌, ◌≤◌}
-use mathlib.Core.Path.{◌≡◌}
 use native.Mathlib.Omega.{arith}
-use lib.ListN.{length}
 use Rattle.rules.specs.Merged.{columns}
-use Rattle.answer_text.specs.Answers.{Row, row, row_at}
-use Rattle.text_fields.specs.Tables.{table}
+use Rattle.answer_text.specs.Answers.{row, row_at}
 use Rattle.text_fields.proofs.Tables.{spare_none, spare_more, not_fit, all_fit}
 use Rattle.text_rows.proofs.rows.fit.Goals as goal
 

@@ -1,11 +1,9 @@
-use Prim.Native.Nat.{ℕ, ◌+◌, ◌-◌, ◌≤◌}
+use Prim.Native.Nat.{◌+◌, ◌-◌, ◌≤◌}
 use mathlib.Core.Path.{◌≡◌}
-use native.Mathlib.Omega.{arith}
 use lib.ListN.{length}
 use Rattle.rules.specs.Merged.{columns}
-use Rattle.answer_text.specs.Answers.{Row, row, row_at}
+use Rattle.answer_text.specs.Answers.{row, row_at}
 use Rattle.text_fields.specs.Tables.{table}
-use Rattle.text_fields.proofs.Tables.{spare_none, spare_more, not_fit, all_fit}
 use Rattle.text_rows.proofs.rows.fit.Given as goal
 
 abbrev pub invariant-loop-i : goal.invariant-loop-i

@@ -1,12 +1,9 @@
 -- `put_rows` meets its contract: the lines of the rows passed are written. Assumes nothing.
-use Prim.Native.Nat.{ℕ, ◌-◌, ◌≤◌}
 use mathlib.Core.Path.{◌≡◌}
 use native.Mathlib.Omega.{arith}
 use Rattle.rules.specs.Merged.{columns}
-use Rattle.answer_text.specs.Answers.{Row, row, row_at}
-use Rattle.answer_text.specs.Buffer.{Put}
-use Rattle.text_fields.specs.Tables.{table}
-use Rattle.text_fields.proofs.Tables.{put_first, still_long, line_room, put_next}
+use Rattle.answer_text.specs.Answers.{row, row_at}
+use Rattle.text_fields.proofs.Tables.{put_first, line_room, put_next}
 use Rattle.text_rows.proofs.rows.put_rows.Goals as goal
 
 pub loop-i-init : goal.loop-i-init

@@ -1,11 +1,8 @@
-use Prim.Native.Nat.{ℕ, ◌-◌, ◌≤◌}
-use mathlib.Core.Path.{◌≡◌}
-use native.Mathlib.Omega.{arith}
+use Prim.Native.Nat.{◌-◌, ◌≤◌}
 use Rattle.rules.specs.Merged.{columns}
-use Rattle.answer_text.specs.Answers.{Row, row, row_at}
+use Rattle.answer_text.specs.Answers.{row, row_at}
 use Rattle.answer_text.specs.Buffer.{Put}
 use Rattle.text_fields.specs.Tables.{table}
-use Rattle.text_fields.proofs.Tables.{put_first, still_long, line_room, put_next}
 use Rattle.text_rows.proofs.rows.put_rows.Given as goal
 
 abbrev pub invariant-loop-i : goal.invariant-loop-i
