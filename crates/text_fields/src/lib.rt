@@ -1,6 +1,7 @@
 // Numbers and fields of the text into a lent buffer: how many bytes each takes, and the bytes from a place on.
 
 #![tactic(auto)]
+
 ghost use Rattle.std.specs.Prelude.{◌≤◌, ◌≡◌, [], ◌∷◌, ◌++◌, nat_abs, length};
 ghost use Rattle.io.specs.Digits.{IsDigitCount};
 ghost use Rattle.answer_text.specs.Numbers.{decimal, signed};

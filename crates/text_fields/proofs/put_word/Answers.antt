@@ -1,5 +1,5 @@
 -- `put_word` meets its contract: the bytes passed are pasted. Assumes nothing.
-use Prim.Native.Nat.{ℕ, ◌+◌, ◌-◌, ◌≤◌, zero-le}
+use Prim.Native.Nat.{ℕ, ◌+◌, zero-le}
 use mathlib.Core.Path.{◌≡◌, refl, sym, ap, ◌∙◌}
 use mathlib.Core.List.{List}
 use native.Mathlib.Omega.{arith}
@@ -17,9 +17,9 @@ pub loop-i-preserved : goal.loop-i-preserved
 loop-i-preserved c =
     let l = c.loop-i in
     let a = c.args in (
-      simp length-set l.inv.0,
+      simp length-set l.invariant.0,
       omega arith,
-      ap (λ (d : List ℕ). set d (a.place + l.i) (get_or a.word.now l.i 0)) l.inv.2
+      ap (λ (d : List ℕ). set d (a.place + l.i) (get_or a.word.now l.i 0)) l.invariant.2
           ∙ paste-suc a.out.now a.place a.word.now l.i 0 (omega arith) (omega arith)
           ∙ ap (paste a.out.now a.place a.word.now) (sym (add-one l.i)),
     )
@@ -29,5 +29,5 @@ returns c =
     let l = c.loop-i in
     let a = c.args in
     let all : l.i ≡ length a.word.now = omega arith in
-    let e : l.out ≡ paste a.out.now a.place a.word.now (length a.word.now) = l.inv.2 ∙ ap (paste a.out.now a.place a.word.now) all in
+    let e : l.out ≡ paste a.out.now a.place a.word.now (length a.word.now) = l.invariant.2 ∙ ap (paste a.out.now a.place a.word.now) all in
     rw e (put_copy a.place a.word.now a.out.now)
