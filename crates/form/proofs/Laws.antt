@@ -8,7 +8,7 @@ use mathlib.Core.List.{List}
 use native.Mathlib.Omega.{arith}
 use lib.Dec.{ltb, eqb}
 use lib.ListN.{length, get_or, drop, drop_of_length-le}
-use borrow.Author.Tests.{lt-ltb, le-ltb, le-leb, lt-leb, eq-eqb, ne_eqb, not-true, not-false}
+use borrow.Author.Tests.{lt-ltb, le-ltb, le-leb, lt-leb, eq-eqb, ne_eqb}
 use Rattle.rules.specs.Piece.{Piece}
 use Rattle.rules.specs.Lists.{Width, Lent, keys, ranges, cut, total, tracks}
 use Rattle.rules.specs.Answer.{refuse, or_else, judge_range, judge_list, judge_lists, judge, two_way, unknown_combiner}
@@ -109,11 +109,15 @@ module _ (k : Kind) (s e v : ℕ) (ns : List ℕ) where
       ends_differ h = rw (← from_columns, ne_eqb e s h)
 
       module _ (ends : e ≡ s) where
-        pub values_differ : not (eqb v s) ≡ true → Refused ColumnsDiffer ≡ shape
-        values_differ h = rw (← from_columns, eq-eqb e s ends, not-true (eqb v s) h)
+        pub values_differ : (v ≡ s → ⊥) → Refused ColumnsDiffer ≡ shape
+        values_differ h = rw (← from_columns, eq-eqb e s ends, ne_eqb v s h)
 
-        pub from_total : not (eqb v s) ≡ false → (n : ℕ) → n ≡ total ns → (t : Bool) → not (eqb n s) ≡ t → refuse t ColumnsDiffer (agreed k s) ≡ shape
-        from_total h n q t u = rw (← from_columns, eq-eqb e s ends, not-false (eqb v s) h, ← q, u)
+        module _ (values : v ≡ s) (n : ℕ) (q : n ≡ total ns) where
+          pub totals_differ : (n ≡ s → ⊥) → Refused ColumnsDiffer ≡ shape
+          totals_differ h = rw (← from_columns, eq-eqb e s ends, eq-eqb v s values, ← q, ne_eqb n s h)
+
+          pub all_agree : n ≡ s → agreed k s ≡ shape
+          all_agree h = rw (← from_columns, eq-eqb e s ends, eq-eqb v s values, ← q, eq-eqb n s h)
 
 unrefused : (t u w : Bool) (a b c : Answer) (next : Judgement) → refuse t a (refuse u b (refuse (not w) c next)) ≡ Sound → w ≡ true
 unrefused t u true a b c next h = refl

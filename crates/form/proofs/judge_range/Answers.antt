@@ -1,5 +1,4 @@
 -- `form::judge_range` meets its contract. Assumes nothing.
-use borrow.Author.Rules.{rules}
 use Rattle.form.specs.Shape.{ended}
 use Rattle.form.proofs.Laws.{one_backward, one_first, one_overlap, one_sound}
 use Rattle.form.proofs.judge_range.Goals as goal

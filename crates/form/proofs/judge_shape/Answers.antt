@@ -1,29 +1,12 @@
 -- `form::judge_shape` meets its contract. Assumes nothing.
-use Prim.Native.Nat.{◌≤◌}
-use mathlib.Core.Path.{◌≡◌, sym, ◌∙◌}
-use mathlib.Core.Logic.{◌⊎◌, inl, inr, ⊎_elim}
-use mathlib.Core.Bool.{true, false}
-use lib.ListN.{length}
-use borrow.Author.Rules.{rules}
+use Rattle.std.proofs.Common.{◌≡◌, ◌∙◌, sym, true, false, length, inl, inr, ◌⊎◌}
 use Rattle.rules.specs.Answer.{two_way}
-use Rattle.form.specs.Shape.{judge_shape}
-use Rattle.form.proofs.Laws.{agreed, many_ranges, combiner, many_lists, not_two, ends_differ, values_differ, from_total}
+use Rattle.form.proofs.Laws.{many_ranges, combiner, many_lists, not_two, ends_differ, values_differ, totals_differ, all_agree}
 use Rattle.form.proofs.judge_shape.Goals as goal
-
--- past the refusals by the number of lists
-module _ (j : tie.Joined2) where
-  abbrev start : tie.Start
-  start = j.before.before.before.before
-
-  few : length start.args.counts.now ≤ 16
-  few = j.before.before.if1.left
-
-  two : (length start.args.counts.now ≡ 2) ⊎ (two_way start.args.kind ≡ false)
-  two = ⊎_elim (λ w. inl w.1.left) (λ w. inr (sym j.before.is-two-way.ensures ∙ w.left)) j.if2.came
+use Rattle.form.proofs.judge_shape.Goals.{then-is_two_way+else-counts-ne2, else-is_two_way, then-ends-starts-via-then-ends-starts, then-ends-starts-via-else-ends-starts+then-values-starts, then-ends-starts-via-else-ends-starts+else-values-starts+then-add_up-starts}
 
 pub returns-then-counts-gt-MAX_LISTS : goal.returns-then-counts-gt-MAX_LISTS
-returns-then-counts-gt-MAX_LISTS c =
-    many_lists _ _ _ _ _ c.if-counts-gt-MAX_LISTS.true
+returns-then-counts-gt-MAX_LISTS c = many_lists _ _ _ _ _ c.if-counts-gt-MAX_LISTS.true
 
 pub returns-then-counts-ne2 : goal.returns-then-counts-ne2
 returns-then-counts-ne2 c =
@@ -31,19 +14,20 @@ returns-then-counts-ne2 c =
 
 pub returns-then-ends-starts : goal.returns-then-ends-starts
 returns-then-ends-starts c =
-    ⊎_elim (λ w. ends_differ _ _ _ _ _ (few j) (two j) w.taken)
-    (⊎_elim (λ w. values_differ _ _ _ _ _ (few j) (two j) w.0.left w.1.taken)
-    (λ w. from_total _ _ _ _ _ (few j) (two j) w.0.left w.1.left _ w.2.ensures true w.3.taken))
-    c.then-ends-starts.branch
+    let two : (length c.args.counts.now ≡ 2) ⊎ (two_way c.args.kind ≡ false) = elim c.if-is_two_way.branch [ then-is_two_way+else-counts-ne2 w ↦ inl w.if-counts-ne2.false | else-is_two_way w ↦ inr (sym c.is_two_way.ensures ∙ w.if-is_two_way.false) ] in
+    elim c.then-ends-starts.branch [ then-ends-starts-via-then-ends-starts w ↦ ends_differ _ _ _ _ _ c.if-counts-gt-MAX_LISTS.false two w.if-ends-starts.true | then-ends-starts-via-else-ends-starts+then-values-starts w ↦ values_differ _ _ _ _ _ c.if-counts-gt-MAX_LISTS.false two w.if-ends-starts.false w.if-values-starts.true | then-ends-starts-via-else-ends-starts+else-values-starts+then-add_up-starts w ↦ totals_differ _ _ _ _ _ c.if-counts-gt-MAX_LISTS.false two w.if-ends-starts.false w.if-values-starts.false _ w.add_up.ensures w.if-add_up-starts.true ]
 
 pub returns-then-starts-gt-MAX_RANGES : goal.returns-then-starts-gt-MAX_RANGES
 returns-then-starts-gt-MAX_RANGES c =
-    many_ranges _ _ c.if-starts-gt-MAX_RANGES.true ∙ (from_total _ _ _ _ _ (few j) (two j) c.if-ends-starts.false c.if-values-starts.false _ c.add_up.ensures false c.if-add_up-starts.false)
+    let two : (length c.args.counts.now ≡ 2) ⊎ (two_way c.args.kind ≡ false) = elim c.if-is_two_way.branch [ then-is_two_way+else-counts-ne2 w ↦ inl w.if-counts-ne2.false | else-is_two_way w ↦ inr (sym c.is_two_way.ensures ∙ w.if-is_two_way.false) ] in
+    many_ranges _ _ c.if-starts-gt-MAX_RANGES.true ∙ all_agree _ _ _ _ _ c.if-counts-gt-MAX_LISTS.false two c.if-ends-starts.false c.if-values-starts.false _ c.add_up.ensures c.if-add_up-starts.false
 
 pub returns-then-is_unknown : goal.returns-then-is_unknown
 returns-then-is_unknown c =
-    combiner _ _ c.if-starts-gt-MAX_RANGES.false true (sym c.is_unknown.ensures ∙ c.if-is_unknown.true) ∙ (from_total _ _ _ _ _ (few j) (two j) c.if-ends-starts.false c.if-values-starts.false _ c.add_up.ensures false c.if-add_up-starts.false)
+    let two : (length c.args.counts.now ≡ 2) ⊎ (two_way c.args.kind ≡ false) = elim c.if-is_two_way.branch [ then-is_two_way+else-counts-ne2 w ↦ inl w.if-counts-ne2.false | else-is_two_way w ↦ inr (sym c.is_two_way.ensures ∙ w.if-is_two_way.false) ] in
+    combiner _ _ c.if-starts-gt-MAX_RANGES.false true (sym c.is_unknown.ensures ∙ c.if-is_unknown.true) ∙ all_agree _ _ _ _ _ c.if-counts-gt-MAX_LISTS.false two c.if-ends-starts.false c.if-values-starts.false _ c.add_up.ensures c.if-add_up-starts.false
 
 pub returns : goal.returns
 returns c =
-    combiner _ _ c.if-starts-gt-MAX_RANGES.false false (sym c.is_unknown.ensures ∙ c.if-is_unknown.false) ∙ (from_total _ _ _ _ _ (few j) (two j) c.if-ends-starts.false c.if-values-starts.false _ c.add_up.ensures false c.if-add_up-starts.false)
+    let two : (length c.args.counts.now ≡ 2) ⊎ (two_way c.args.kind ≡ false) = elim c.if-is_two_way.branch [ then-is_two_way+else-counts-ne2 w ↦ inl w.if-counts-ne2.false | else-is_two_way w ↦ inr (sym c.is_two_way.ensures ∙ w.if-is_two_way.false) ] in
+    combiner _ _ c.if-starts-gt-MAX_RANGES.false false (sym c.is_unknown.ensures ∙ c.if-is_unknown.false) ∙ all_agree _ _ _ _ _ c.if-counts-gt-MAX_LISTS.false two c.if-ends-starts.false c.if-values-starts.false _ c.add_up.ensures c.if-add_up-starts.false
