@@ -1,49 +1,35 @@
 -- `two_way_seat::full_join::next_piece` meets its contract: each way takes off the piece that comes next. Assumes nothing.
 use mathlib.Core.Path.{refl}
 use native.Mathlib.Omega.{arith}
-use borrow.Author.Rules.{rules}
-use Rattle.rules.specs.Lists.{seats}
 use Rattle.rules.specs.declared.Pairing.TheVariants.{Full}
-use Rattle.two_way.specs.Sides.{two_of}
 use Rattle.two_way.proofs.Emit.{emitted}
-use Rattle.two_way.proofs.Next.{Ranges, left_prefix, left_alone, right_prefix, right_alone, both_start, both_done}
+use Rattle.two_way.proofs.Next.{left_prefix, left_alone, right_prefix, right_alone, both_start, both_done}
+use Rattle.two_way_seat.proofs.Both.{both}
 use Rattle.two_way_seat.proofs.full_join.next_piece.Goals as goal
-
-start : Read → tie.Start
-start r = search
-
-abbrev left_read : Read → tie.After-key-at
-left_read r = r.before.before
-
--- both lists have a range left there
-ranges : (r : Read) → Ranges (two_of seats (start r).args.starts.now (start r).args.ends.now (start r).args.middle) (start r).args.cursor (left_read r).key_at.result r.key-at2.result
-unfolding start
-ranges r =
-    record { ready = (start r).requires; left = (left_read r).before.if1.true; right = r.before.if2.true; left_end = (left_read r).key_at.ensures; right_end = r.key-at2.ensures }
 
 pub emit-requires : goal.emit-requires
 emit-requires c =
-    (left_prefix (ranges r) Full refl c.if-left_start-right_start.true c.earlier-end.ensures).covering
+    (left_prefix (both c.requires c.if-la-middle.true c.if-ra-starts.true c.key_at-left_end.ensures c.key_at-right_end.ensures) Full refl c.if-left_start-right_start.true c.earlier-end.ensures).covering
 
 pub returns-then-left_start-right_start : goal.returns-then-left_start-right_start
 returns-then-left_start-right_start c =
-    emitted (left_prefix (ranges r) Full refl c.if-left_start-right_start.true c.earlier-end.ensures) c.emit.result c.emit.ensures
+    emitted (left_prefix (both c.requires c.if-la-middle.true c.if-ra-starts.true c.key_at-left_end.ensures c.key_at-right_end.ensures) Full refl c.if-left_start-right_start.true c.earlier-end.ensures) c.emit.result c.emit.ensures
 
 pub emit-requires-then-right_start-left_start : goal.emit-requires-then-right_start-left_start
 emit-requires-then-right_start-left_start c =
-    (right_prefix (ranges r) c.if-right_start-left_start.true c.earlier-end-then-right_start-left_start.ensures).covering
+    (right_prefix (both c.requires c.if-la-middle.true c.if-ra-starts.true c.key_at-left_end.ensures c.key_at-right_end.ensures) c.if-right_start-left_start.true c.earlier-end-then-right_start-left_start.ensures).covering
 
 pub returns-then-right_start-left_start : goal.returns-then-right_start-left_start
 returns-then-right_start-left_start c =
-    emitted (right_prefix (ranges r) c.if-right_start-left_start.true c.earlier-end-then-right_start-left_start.ensures) c.emit-then-right_start-left_start.result c.emit-then-right_start-left_start.ensures
+    emitted (right_prefix (both c.requires c.if-la-middle.true c.if-ra-starts.true c.key_at-left_end.ensures c.key_at-right_end.ensures) c.if-right_start-left_start.true c.earlier-end-then-right_start-left_start.ensures) c.emit-then-right_start-left_start.result c.emit-then-right_start-left_start.ensures
 
 pub emit-requires-then-ra-starts : goal.emit-requires-then-ra-starts
 emit-requires-then-ra-starts c =
-    (both_start (ranges r) (omega (arith, c.if-right_start-left_start.false, c.if-left_start-right_start.false)) c.earlier-end-then-ra-starts.ensures).covering
+    (both_start (both c.requires c.if-la-middle.true c.if-ra-starts.true c.key_at-left_end.ensures c.key_at-right_end.ensures) (omega (arith, c.if-right_start-left_start.false, c.if-left_start-right_start.false)) c.earlier-end-then-ra-starts.ensures).covering
 
 pub returns-then-ra-starts : goal.returns-then-ra-starts
 returns-then-ra-starts c =
-    emitted (both_start (ranges r) (omega (arith, c.if-right_start-left_start.false, c.if-left_start-right_start.false)) c.earlier-end-then-ra-starts.ensures) c.emit-then-ra-starts.result c.emit-then-ra-starts.ensures
+    emitted (both_start (both c.requires c.if-la-middle.true c.if-ra-starts.true c.key_at-left_end.ensures c.key_at-right_end.ensures) (omega (arith, c.if-right_start-left_start.false, c.if-left_start-right_start.false)) c.earlier-end-then-ra-starts.ensures) c.emit-then-ra-starts.result c.emit-then-ra-starts.ensures
 
 pub emit-requires-then-la-middle : goal.emit-requires-then-la-middle
 emit-requires-then-la-middle c =

@@ -1,6 +1,5 @@
 -- `two_way_seat::side::advance` meets its contract: what is left past the end of a piece. Assumes nothing.
 use native.Mathlib.Omega.{arith}
-use borrow.Author.Rules.{rules}
 use Rattle.two_way.proofs.Kept.{kept_all, kept_remainder, kept_after}
 use Rattle.two_way_seat.proofs.side.advance.Goals as goal
 

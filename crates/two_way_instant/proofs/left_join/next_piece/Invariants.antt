@@ -1,0 +1,13 @@
+use Prim.Native.Nat.{◌-◌}
+use Rattle.rules.specs.Lists.{instants}
+use Rattle.rules.specs.declared.Pairing.TheVariants.{Left}
+use Rattle.two_way.specs.Sides.{two_of}
+use Rattle.two_way.proofs.Next.{Instead}
+use Rattle.two_way_instant.proofs.left_join.next_piece.Given as goal
+
+abbrev pub invariant-loop-left : goal.invariant-loop-left
+invariant-loop-left l =
+    Instead (two_of instants l.starts l.ends l.middle) Left (record { left = l.left; right = l.initial.right }) (record { left = l.left; right = l.right })
+
+abbrev pub decreases-loop-left : goal.decreases-loop-left
+decreases-loop-left l = l.n - l.right.at

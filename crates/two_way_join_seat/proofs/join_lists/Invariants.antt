@@ -1,0 +1,14 @@
+use mathlib.Core.Bool.{cond}
+use Rattle.rules.specs.Lists.{seats}
+use Rattle.two_way_join.proofs.Turns.{Turns}
+use Rattle.two_way_join_seat.proofs.join_lists.Given as goal
+
+abbrev pub invariant-loop-answer : goal.invariant-loop-answer
+invariant-loop-answer l =
+    Turns seats l.asked (record { starts = l.starts; ends = l.ends; values = l.values; counts = l.counts }) l.room
+    (record { start = l.initial.out_start; end = l.initial.out_end; left = l.initial.out_left; right = l.initial.out_right; presence = l.initial.out_presence })
+    (record { start = l.out_start; end = l.out_end; left = l.out_left; right = l.out_right; presence = l.out_presence }) l.sure
+
+abbrev pub decreases-loop-answer : goal.decreases-loop-answer
+decreases-loop-answer l =
+    cond l.sure 0 1

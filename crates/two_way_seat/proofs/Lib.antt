@@ -1,0 +1,2 @@
+-- What the joins' proofs share.
+mod Both
