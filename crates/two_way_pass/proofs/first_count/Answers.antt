@@ -1,6 +1,5 @@
 -- `two_way_pass::first_count` meets its contract. Assumes nothing.
 use native.Mathlib.Omega.{arith}
-use borrow.Author.Rules.{rules}
 use Rattle.two_way_pass.proofs.first_count.Goals as goal
 
 pub overflow_cast-result : goal.overflow_cast-result

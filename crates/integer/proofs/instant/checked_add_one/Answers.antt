@@ -1,6 +1,5 @@
 -- `integer::instant::checked_add_one` meets its contract: below the greatest point there is room for one more. Assumes nothing.
 use native.Mathlib.Omega.{arith}
-use borrow.Author.Rules.{rules}
 use Rattle.integer.proofs.Laws.{key_back, faithful_instants}
 use Rattle.integer.proofs.instant.checked_add_one.Goals as goal
 

@@ -1,5 +1,4 @@
 -- `integer::instant::point` meets its contract. Assumes nothing.
-use borrow.Author.Rules.{rules}
 use Rattle.integer.proofs.Keys.{point_negative, point_nonnegative}
 use Rattle.integer.proofs.instant.point.Goals as goal
 
