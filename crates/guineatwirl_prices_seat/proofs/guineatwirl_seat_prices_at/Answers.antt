@@ -1,5 +1,4 @@
 -- `guineatwirl_seat_prices_at` meets its contract. Assumes nothing.
-use borrow.Author.Rules.{rules}
 use Rattle.rules.proofs.Said.{said}
 use Rattle.guineatwirl_prices_seat.proofs.guineatwirl_seat_prices_at.Goals as goal
 
