@@ -1,6 +1,7 @@
 // What the form checker finds for seats and for instants, a case to a line: the case as its table has it, and what is found.
 
 #![tactic(auto)]
+
 pub mod cases;
 pub mod instant;
 pub mod seat;

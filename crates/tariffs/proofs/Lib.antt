@@ -1,4 +1,3 @@
 -- The laws of a list that is judged range by range. Assumes nothing.
 pub mod Laws
-pub mod Calls
 pub mod Alone
