@@ -1,6 +1,7 @@
 // Points at the ends of both widths. Each line that is written names a fact and says whether it holds.
 
 #![tactic(auto)]
+
 mod instant;
 mod seat;
 
