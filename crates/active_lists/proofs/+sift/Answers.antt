@@ -14,7 +14,7 @@ returns t c =
     sinks_here c.requires.0 c.requires.1
     (elim c.if-place-len.branch [
       | then-place-len+else-lower w ↦
-        let h = w.higher-child in
-        λ i u l. omega (arith, h.ensures.least i u l, read c.args.active.now h.result (omega (arith, h.ensures.inside)), w.lower.ensures.no w.if-lower.false)
+          let h = w.higher-child in
+          λ i u l. omega (arith, h.ensures.least i u l, read c.args.active.now h.result (omega (arith, h.ensures.inside)), w.lower.ensures.no w.if-lower.false)
       | else-place-len w ↦ λ i u l. absurd (omega arith)
     ])

@@ -1,7 +1,6 @@
 -- `higher` meets its contract. Assumes nothing.
 use mathlib.Core.Path.{refl}
 use native.Mathlib.Omega.{arith}
-use borrow.Author.Rules.{rules}
 use Rattle.heap.proofs.Moves.{only_child, one_more}
 use Rattle.active_lists.specs.Kept.{places}
 use Rattle.active_lists.proofs.Places.{higher_child}
