@@ -2,6 +2,7 @@
 // those that took the place of a top.
 
 #![tactic(auto)]
+
 ghost use Rattle.std.specs.Prelude.{◌<◌};
 ghost use Rattle.heap.specs.Heap.{entries, entries_after, Whole, Heap};
 

@@ -6,7 +6,7 @@ use native.Mathlib.Omega.{arith}
 use lib.IntN.{ℤ}
 use Rattle.rules.specs.Lists.{Width}
 use Rattle.rules.specs.Sweep as rules
-use Rattle.multiway_sweep.specs.Steps.{Reading, Arrays, sizes_after, Sweeping, Holds, Stepped}
+use Rattle.multiway_sweep.specs.Steps.{Reading, Arrays, sizes_after, Holds, Stepped}
 use Rattle.multiway_sweep.specs.Sweeps.{arrays_of, Advanced}
 use Rattle.multiway_sweep.specs.declared.Step.{Step}
 use Rattle.multiway_sweep.specs.declared.Step.TheVariants.{Start, End, Done}
@@ -19,9 +19,5 @@ module _ {P : Type 0} (w : Width P) (c : Reading P) where
   some_left a (End key list z) n h e = let q : ◌≡◌ {A = ℕ} 0 1 = cc in absurd (omega arith)
   some_left a Done n h e = n refl
 
-  module _ (s : Sweep) {rest : List (rules.Event ℤ)} (t : Step) where
-    pub stayed : t ≡ Done → rest ≡ [] → Sweeping w c (arrays_of s) s.sizes rest → Advanced w c s rest (record { taken = t; sweep = s })
-    stayed q e g = rw q ((tt, e), refl, λ _. g)
-
-    pub went : (x : Sweep) → (t ≡ Done → ⊥) → Stepped w c (arrays_of s) (arrays_of x) rest t → x.sizes ≡ sizes_after t s.sizes → Advanced w c s rest (record { taken = t; sweep = x })
-    went x n st z = (st, z, λ e. absurd (some_left (arrays_of x) t n st.1 e))
+  pub went : (s : Sweep) {rest : List (rules.Event ℤ)} (t : Step) (x : Sweep) → (t ≡ Done → ⊥) → Stepped w c (arrays_of s) (arrays_of x) rest t → x.sizes ≡ sizes_after t s.sizes → Advanced w c s rest (record { taken = t; sweep = x })
+  went s t x n st z = (st, z, λ e. absurd (some_left (arrays_of x) t n st.1 e))
