@@ -2,10 +2,8 @@
 use Prim.Native.Nat.{ℕ, ◌*◌, ◌≤◌, ◌<◌}
 use mathlib.Core.Path.{◌≡◌, refl, sym, ap, ◌∙◌}
 use mathlib.Core.Bool.{Bool, true, false}
-use mathlib.Core.List.{[], ◌∷◌}
 use lib.Dec.{leb}
 use denote.Enum.Declared.{tag_of}
-use types.Run.{OneOf, miss}
 use native.Mathlib.Omega.{arith}
 use lib.ListN.{length}
 use borrow.Author.Tests.{le-leb, lt-leb, leb-true, leb-false}
@@ -49,11 +47,11 @@ module _ {P : Type 0} (w : Width P) (l : Lent P) {f : Judgement} (judged : Judge
           go true h = (leb-true needed m h, rw h at e)
           go false h = let n : a ≡ NoRoom needed = rw h at e in absurd (omega (arith, ap (tag_of the_type) (sym d ∙ n)))
 
-      scant : OneOf (1 ∷ 2 ∷ 3 ∷ 4 ∷ 5 ∷ 6 ∷ 7 ∷ 8 ∷ []) (tag_of the_type a) → (m < needed) × (a ≡ NoRoom needed)
+      scant : ((k : ℕ) → a ≡ Done k → ⊥) → (m < needed) × (a ≡ NoRoom needed)
       scant k = go (leb needed m) refl
         where
           go : (t : Bool) → leb needed m ≡ t → (m < needed) × (a ≡ NoRoom needed)
-          go true h = let n : a ≡ Done needed = rw h at e in absurd (miss (1 ∷ 2 ∷ 3 ∷ 4 ∷ 5 ∷ 6 ∷ 7 ∷ 8 ∷ []) 0 tt (rw n at k))
+          go true h = absurd (k needed (rw h at e))
           go false h = (leb-false needed m h, rw h at e)
 
       pub listable : {k : ℕ} → a ≡ Done k → Listable w l c
@@ -63,6 +61,6 @@ module _ {P : Type 0} (w : Width P) (l : Lent P) {f : Judgement} (judged : Judge
       unfolding listing
       written d o = rw ((enough d).1, h, le-leb (length (events_of w l)) (room c) (omega (arith, count, (enough d).0)), o.is, count)
 
-      pub no_room : OneOf (1 ∷ 2 ∷ 3 ∷ 4 ∷ 5 ∷ 6 ∷ 7 ∷ 8 ∷ []) (tag_of the_type a) → leaves a c ≡ listing w l c
+      pub no_room : ((k : ℕ) → a ≡ Done k → ⊥) → leaves a c ≡ listing w l c
       unfolding listing
       no_room k = rw ((scant k).1, h, lt-leb (length (events_of w l)) (room c) (omega (arith, count, (scant k).0)), count)
