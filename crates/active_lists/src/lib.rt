@@ -3,6 +3,7 @@
 // comes to the top, where it is dropped (specs/Kept).
 
 #![tactic(auto)]
+
 ghost use Rattle.std.specs.Prelude.{◌+◌, ◌*◌, ◌<◌, ◌≤◌, ◌≡◌, true, false, length};
 ghost use Rattle.integer.specs.Order.{Less};
 ghost use Rattle.heap.specs.Holes.{Chosen};
