@@ -1,6 +1,7 @@
 // Drains sweeps that are lent beside the event listing, for seats and for instants: a line for each set of lists says whether they agree.
 
 #![tactic(auto)]
+
 pub mod instant;
 pub mod seat;
 

@@ -1,11 +1,7 @@
 -- `drained` is safe and ends. Assumes nothing.
 use Prim.Native.Nat.{◌-◌, ◌≤◌}
-use native.Mathlib.Omega.{arith}
-use borrow.Author.Rules.{rules}
 use Rattle.rules.specs.Lists.{seats}
-use Rattle.multiway_sweep.proofs.Begun.{begun}
 use Rattle.sweep_step.specs.Lent.{Goes}
-use Rattle.sweep_step.proofs.Empties.{goes_on}
 use Rattle.sweep_step_test.proofs.seat.drained.Given as goal
 
 abbrev pub invariant-loop-place : goal.invariant-loop-place
