@@ -4,7 +4,6 @@ use mathlib.Core.Option.{some}
 use native.Mathlib.Omega.{arith}
 use lib.IntN.{pos}
 use lib.ListN.{get_or}
-use borrow.Author.Rules.{rules}
 use Rattle.integer.proofs.Laws.{wide}
 use Rattle.active_lists.specs.Active.{has}
 use Rattle.select_pass.proofs.Carried.{top_is, top_none, not_kept, kept_none, kept_top}
