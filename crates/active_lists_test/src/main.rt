@@ -2,6 +2,7 @@
 // as 0 to 9 and A to G, and whether that is odd: a line of each for a script.
 
 #![tactic(auto)]
+
 ghost use Rattle.std.specs.Prelude.{◌<◌, ◌≡◌, false, length, get_or};
 ghost use Rattle.active_lists.specs.Active.{Set, Some};
 ghost use Rattle.active_lists.specs.Kept.{stands, stands_before, stands_after};

@@ -1,5 +1,3 @@
--- The laws of a sweep that is lent: its steps on the machine and in columns, what they take, and that it is emptied.
-pub mod Machine
-pub mod Columns
+-- The laws of a sweep that is lent: what its steps take, and that it is emptied.
 pub mod Empties
 pub mod Ruled
