@@ -14,15 +14,15 @@ loop-i-init c =
 
 pub overflow_cast-total : goal.overflow_cast-total
 overflow_cast-total c =
-    (wide (get_or c.args.current.now (c.loop-i.i - 1) (pos 0)) c.total-1.given).0
+    (wide (get_or c.args.current.now (c.loop-i.i - 1) (pos 0)) (omega arith)).0
 
 pub overflow_add-total : goal.overflow_add-total
 overflow_add-total c =
-    total_fits c.loop-i.invariant.kept (omega arith) (get_or c.args.current.now (c.loop-i.i - 1) (pos 0)) c.total-1.given
+    total_fits c.loop-i.invariant.kept (omega arith) (get_or c.args.current.now (c.loop-i.i - 1) (pos 0)) (omega arith)
 
 pub loop-i-preserved-then-present-i : goal.loop-i-preserved-then-present-i
 loop-i-preserved-then-present-i c =
-    kept_there c.loop-i.invariant (omega arith) c.if-present-i.true (λ _ s. total_more s (omega arith) _ c.total-1.given)
+    kept_there c.loop-i.invariant (omega arith) c.if-present-i.true (λ _ s. total_more s (omega arith) _ (omega arith))
 
 pub loop-i-preserved : goal.loop-i-preserved
 loop-i-preserved c =

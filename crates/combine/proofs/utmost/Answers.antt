@@ -12,7 +12,7 @@ loop-i-init c =
 
 pub loop-i-preserved : goal.loop-i-preserved
 loop-i-preserved c =
-    (omega arith, best_next c.loop-i.invariant.1 c.weight-arg-in-loop-i-1.given c.weight.type_inv c.larger-best.type_inv c.weight.ensures c.larger-best.ensures)
+    (omega arith, best_next c.loop-i.invariant.1 (omega arith) c.weight.type_inv c.larger-best.type_inv c.weight.ensures c.larger-best.ensures)
 
 pub returns-then-count-eq0 : goal.returns-then-count-eq0
 returns-then-count-eq0 c =

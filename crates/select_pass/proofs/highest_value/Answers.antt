@@ -4,7 +4,6 @@ use mathlib.Core.Option.{some}
 use native.Mathlib.Omega.{arith}
 use lib.IntN.{pos}
 use lib.ListN.{get_or}
-use borrow.Author.Rules.{rules}
 use Rattle.integer.proofs.Laws.{wide}
 use Rattle.active_lists.specs.Active.{has}
 use Rattle.select_pass.proofs.Carried.{top_is, top_none, not_kept, kept_none, kept_top}
@@ -33,9 +32,9 @@ bounds-current-list c =
 
 pub overflow_cast-result : goal.overflow_cast-result
 overflow_cast-result c =
-    (wide (get_or c.args.current.now c.in-List.list (pos 0)) c.value-1.given).0
+    (wide (get_or c.args.current.now c.in-List.list (pos 0)) (omega arith)).0
 
 pub returns : goal.returns
 returns c act k l =
     let s = c.highest-top.ensures (has act) k.stands in
-    (ap some (wide _ c.value-1.given).1 ∙ kept_top c.args.admission act (c.keeps.ensures act k.few k.stands l) c.if-not-keeps.false k (top_is (has act) _ c.in-List.is s.1), record { few = k.few; long = k.long; stands = s.0; values = k.values })
+    (ap some (wide _ (omega arith)).1 ∙ kept_top c.args.admission act (c.keeps.ensures act k.few k.stands l) c.if-not-keeps.false k (top_is (has act) _ c.in-List.is s.1), record { few = k.few; long = k.long; stands = s.0; values = k.values })

@@ -1,6 +1,5 @@
 -- `select_pass::keeps` meets its contract. Assumes nothing.
 use mathlib.Core.Path.{◌∙◌}
-use borrow.Author.Rules.{rules}
 use Rattle.active_lists.proofs.Sets.{number_present}
 use Rattle.many_way_rules.specs.declared.Admission.TheVariants.{Odd}
 use Rattle.active_lists.specs.Active.{has}

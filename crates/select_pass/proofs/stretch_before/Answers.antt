@@ -1,5 +1,4 @@
 -- `select_pass::stretch_before` meets its contract. Assumes nothing.
-use borrow.Author.Rules.{rules}
 use Rattle.select_pass.proofs.Stretches.{from_nowhere, to_start, at_start, to_end, past_end, to_nothing}
 use Rattle.select_pass.proofs.stretch_before.Goals as goal
 

@@ -1,6 +1,5 @@
 -- `select_pass::take` meets its contract. Assumes nothing.
 use native.Mathlib.Omega.{arith}
-use borrow.Author.Rules.{rules}
 use mir.Syntax.{w32}
 use Rattle.integer.proofs.Laws.{back}
 use Rattle.active_lists.specs.Active.{has}
