@@ -63,8 +63,7 @@ loop-list-2-smaller c = omega (arith, started_few _ c.loop-list-2.invariant.2.1 
 -- the start is taken
 pub loop-list-2-preserved : goal.loop-list-2-preserved
 loop-list-2-preserved c =
-    let i = c.loop-list-2.invariant in
-    (
+    let i = c.loop-list-2.invariant in (
       (λ ls g. started_on _ (i.0 ls g) c.starting-started.ensures c.in-Of-started.is (search rules) c.step-held-in-loop-list-2.ensures),
       inl (omega arith),
       (i.2.0, started_on _ i.2.1 c.starting-started.ensures c.in-Of-started.is (search rules) c.step-held-in-loop-list-2.ensures),
