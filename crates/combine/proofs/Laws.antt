@@ -1,15 +1,14 @@
--- Laws of combiners that take one value more, and of the mean. Assumes nothing.
-use Prim.Native.Nat.{ℕ, zero, suc, ◌+◌, ◌-◌, ◌*◌, ◌/◌, ◌^◌, ◌≤◌, ◌<◌}
+-- Laws of combiners that take one value more. Assumes nothing.
+use Prim.Native.Nat.{ℕ, zero, suc, ◌+◌, ◌-◌, ◌*◌, ◌^◌, ◌≤◌, ◌<◌}
 use mathlib.Core.Path.{◌≡◌, refl, ap, ◌∙◌}
 use mathlib.Core.Bool.{Bool, true, false}
 use mathlib.Core.Option.{none, some}
 use mathlib.Core.List.{List, [], ◌∷◌}
 use native.Mathlib.Omega.{arith}
-use native.Mathlib.Nat.{div-le_self}
 use lib.Dec.{ltb}
-use lib.IntN.{ℤ, pos, negsuc, sub_ℕ, neg_ℤ, ◌+ℤ◌, +ℤ_comm}
+use lib.IntN.{ℤ, pos, negsuc, sub_ℕ, ◌+ℤ◌, +ℤ_comm}
 use lib.ListN.{length, get_or-eq_default}
-use lib.Signed.{mag, le_z, quot_z}
+use lib.Signed.{mag, le_z}
 use mir.Syntax.{w32, w64}
 use mir.Val.{SFits, of_z, to_z}
 use mir.ValLaws.{to_z-of_z, to_z_pos}
@@ -60,40 +59,6 @@ module _ {n i : ℕ} {t : ℤ} {l : List ℤ} (s : Total n i t l) (h : 0 < i) (v
 
 pub numbered : {places : ℕ} {s : Slots} (n : ℕ) → n ≤ places → places ≤ 16 → n ≡ length (values_of places s) → Numbered places s (to_z w64 n)
 numbered n h few e = rw (to_z_pos w64 n (omega arith)) (record { is = ap pos e; bound = h })
-
-mag_negative : (n k : ℕ) → n ≤ suc k → mag (neg_ℤ (pos n)) ≤ k
-mag_negative zero k h = omega arith
-mag_negative (suc n) k h = omega arith
-
-mag_quotient : (z : ℤ) (n : ℕ) → mag (quot_z z (pos n)) ≤ mag z
-mag_quotient (pos a) n = div-le_self a n
-mag_quotient (negsuc a) n = mag_negative (suc a / n) a (div-le_self (suc a) n)
-
--- the mean, of a sum and a number of values that went through locals
-quotient : (l : List ℤ) → (length l ≡ 0 → ⊥) → quot_z (rules.sum_of l) (pos (length l)) ≡ rules.mean l
-quotient [] h = absurd (h refl)
-quotient (v ∷ l) h = refl
-
-module _ {places : ℕ} {s : Slots} {n : ℤ} (en : Numbered places s n) where
-  pub mean_none : of_z w64 n ≡ 0 → pos 0 ≡ rules.mean (values_of places s)
-  mean_none z = go (values_of places s) en.is
-    where
-      go : (l : List ℤ) → n ≡ pos (length l) → pos 0 ≡ rules.mean l
-      go [] e = refl
-      go (v ∷ l) e = absurd (omega (arith, rw e at z))
-
-  module _ {t : ℤ} (es : Summed places s t) (few : places ≤ 16) (h : of_z w64 n ≡ 0 → ⊥) where
-    back_sum : to_z w64 (of_z w64 t) ≡ t
-    back_sum = to_z-of_z w64 t (record { sfits = omega (arith, es.bound) })
-
-    back_number : to_z w64 (of_z w64 n) ≡ n
-    back_number = to_z-of_z w64 n (record { sfits = omega (arith, en.bound) })
-
-    pub mean_fits : (0 < of_z w64 n) × SFits w64 (quot_z (to_z w64 (of_z w64 t)) (to_z w64 (of_z w64 n)))
-    mean_fits = (omega arith, rw (back_sum, back_number, en.is) (record { sfits = omega (arith, es.bound, mag_quotient t (length (values_of places s))) }))
-
-    pub mean_some : to_z w64 (of_z w64 (quot_z (to_z w64 (of_z w64 t)) (to_z w64 (of_z w64 n)))) ≡ rules.mean (values_of places s)
-    mean_some = to_z-of_z w64 _ mean_fits.1 ∙ rw (back_sum, back_number, es.is, en.is) (quotient (values_of places s) (rw en.is at h))
 
 -- the answer of a known combiner over the values of n places, and that there is no other
 pub known : (k : ℕ) (f : List ℤ → ℤ) → ((l : List ℤ) → rules.combine k l ≡ some (f l)) → (s : Slots) {c m n : ℕ} {r : ℤ} → c ≡ k → n ≡ m → r ≡ f (values_of n s) → mag r < 2 ^ 63 → some (to_z w64 (of_z w64 r)) ≡ rules.combine c (values_of m s)

@@ -1,4 +1,4 @@
--- Selections among the operations: each takes the highest list's value, and over no lists there is none. Assumes nothing.
+-- Selections among the operations: each takes the highest list's value. Assumes nothing.
 use mathlib.Core.Path.{◌≡◌, refl, ◌∙◌}
 use mathlib.Core.Option.{none}
 use mathlib.Core.List.{[]}
@@ -16,11 +16,3 @@ module _ {o : Operation} {p : Pick} {a : Admission} (e : o ≡ Select p a) where
     where
       go : (q : Pick) → Select q a ≡ Select Highest a
       go Highest = refl
-
-  pub selects_nothing : none ≡ rule_of o []
-  selects_nothing = rw takes_highest (go a)
-    where
-      go : (b : Admission) → none ≡ rule_of (Select Highest b) []
-      go Every = refl
-      go Any = refl
-      go Odd = refl
