@@ -1,10 +1,6 @@
 -- Selections among the operations: each takes the highest list's value. Assumes nothing.
 use mathlib.Core.Path.{◌≡◌, refl, ◌∙◌}
-use mathlib.Core.Option.{none}
-use mathlib.Core.List.{[]}
-use Rattle.many_way_rules.specs.Operations.{rule_of}
 use Rattle.many_way_rules.specs.declared.Admission.{Admission}
-use Rattle.many_way_rules.specs.declared.Admission.TheVariants.{Every, Any, Odd}
 use Rattle.many_way_rules.specs.declared.Pick.{Pick}
 use Rattle.many_way_rules.specs.declared.Pick.TheVariants.{Highest}
 use Rattle.many_way_rules.specs.declared.Operation.{Operation}

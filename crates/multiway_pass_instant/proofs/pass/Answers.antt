@@ -1,20 +1,13 @@
 -- `multiway_pass_instant::pass` meets its contract: the pieces done and the one pending say what the rule says up to the last stretch. Assumes nothing.
-use Prim.Native.Nat.{◌-◌}
-use mathlib.Core.Path.{refl, ◌∙◌}
+use mathlib.Core.Path.{refl}
 use native.Mathlib.Omega.{arith}
-use borrow.Author.Rules.{rules}
 use mir.Syntax.{w64}
 use Rattle.integer.proofs.Laws.{back}
-use Rattle.rules.specs.Lists.{Lent, instants, lists}
-use Rattle.rules.specs.Merged.{Merged}
+use Rattle.rules.specs.Lists.{instants}
 use Rattle.rules.proofs.Refusals.{lists_formed}
-use Rattle.many_way_rules.specs.declared.Operation.TheVariants.{Join}
-use Rattle.multiway_sweep.specs.Steps.{reads}
-use Rattle.join_sweep.specs.Stretches.{after, moment_of, Joining}
 use Rattle.join_sweep.proofs.Begins.{zeros, joining_first, finds_next, finds_none}
-use Rattle.multiway_pass.specs.Pieces.{waiting}
-use Rattle.multiway_pass.proofs.Walks.{Going, going_first, going_long, last_puttable, walked, turn_less, turn_silent, turn_apart, turn_puttable, turn_more}
-use Rattle.multiway_pass.proofs.Merges.{lists_few, lists_counted, ruled_out, ruled_in, merge, walkable, all_merged}
+use Rattle.multiway_pass.proofs.Walks.{going_first, last_puttable, walked, turn_less, turn_silent, turn_apart, turn_puttable, turn_more}
+use Rattle.multiway_pass.proofs.Merges.{lists_few, lists_counted, ruled_out, ruled_in, walkable, all_merged}
 use Rattle.multiway_pass_instant.proofs.pass.Goals as goal
 
 -- the first event

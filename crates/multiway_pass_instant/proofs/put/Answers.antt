@@ -1,6 +1,5 @@
 -- `multiway_pass_instant::put` meets its contract. Assumes nothing.
 use native.Mathlib.Omega.{arith}
-use borrow.Author.Rules.{rules}
 use mir.Syntax.{w64}
 use Rattle.integer.proofs.Laws.{back}
 use Rattle.rules.specs.Lists.{instants}

@@ -1,13 +1,11 @@
 -- `select_pass_instant::pass` meets its contract: event by event, the pieces done and the one pending say what the rule says of the points dealt with. Assumes nothing.
 use mathlib.Core.Path.{refl, sym, ap, ◌∙◌}
 use native.Mathlib.Omega.{arith}
-use borrow.Author.Rules.{rules}
-use Rattle.rules.specs.Lists.{Lent, instants}
-use Rattle.rules.specs.Merged.{Merged}
+use Rattle.rules.specs.Lists.{instants}
 use Rattle.multiway_pass.specs.Pieces.{waiting}
-use Rattle.multiway_pass.proofs.Walks.{Going, going_first, going_long, last_puttable, walked}
+use Rattle.multiway_pass.proofs.Walks.{going_first, last_puttable, walked}
 use Rattle.multiway_pass.proofs.Merges.{walkable, all_merged}
-use Rattle.select_pass.proofs.Selects.{Selecting, selection, selecting_first, held_length, Taking, taking, over, one_apart, one_puttable, one_going, none_going, next}
+use Rattle.select_pass.proofs.Selects.{selecting_first, held_length, taking, over, one_apart, one_puttable, one_going, none_going, next}
 use Rattle.select_pass_instant.proofs.pass.Goals as goal
 
 -- the cursors are laid, and no list is active
