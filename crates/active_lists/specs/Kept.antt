@@ -1,7 +1,7 @@
 -- How the set of active lists is kept: in a heap of the lists that were entered, the highest on top, with a mark of each
 -- list; one that ended stays in the heap until it comes to the top.
 -- To keep the set in another way, replace this file (another `Active`, another `Keeps`), the bodies in src/lib.rt and the
--- proofs but `Sets`; the contracts there, `Active.antt`, `Stands-same` and every caller stay as they are. Assumes nothing.
+-- proofs but `Sets`; the contracts there, `Active.antt`, `stands_same` and every caller stay as they are. Assumes nothing.
 use Rattle.std.specs.Prelude.{ℕ, ◌+◌, ◌-◌, ◌<◌, ◌≤◌, ◌≡◌, not, List, eqb, get_or, length, take}
 use Rattle.std.specs.Borrow.{MutBor}
 use denote.Triple.Both.{Both}

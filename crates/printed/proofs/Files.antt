@@ -56,7 +56,7 @@ two_way (Choose p a) = none
 
 module _ {b : List ℕ} {h : Head} {ls : List (Tariff ℤ)} (a : Accepted b h ls) where
   performs : answered (read b) ≡ performed h (sound a).task (lend ls)
-  performs = ap answered a.reading ∙ ap (λ t. asked h t (lend ls)) (sound a).operation-known
+  performs = ap answered a.reading ∙ ap (λ t. asked h t (lend ls)) (sound a).operation_known
 
   long : length (lend ls).counts ≡ length ls
   long = length-map ls length

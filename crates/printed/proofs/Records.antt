@@ -87,7 +87,7 @@ module _ (b : List ℕ) (h : Head) (ls : List (Tariff ℤ)) (y : Bytes b) (e : r
       is j q = ap checked e ∙ ap (λ (j : Judgement). formed j h ls) q
 
       go : (j : Judgement) → judge_lists (tracks instants (lend ls)) ≡ j → printed b ≡ answer (performed h held.task (lend ls))
-      go SoundLists q = ap (λ (x : Reading). answer (answered x)) (is SoundLists q) ∙ ap (λ t. answer (asked h t (lend ls))) held.operation-known
+      go SoundLists q = ap (λ (x : Reading). answer (answered x)) (is SoundLists q) ∙ ap (λ t. answer (asked h t (lend ls))) held.operation_known
       go (Refused a) q =
           let f = five_or_six b y a (is (Refused a) q) in
           ap (λ (x : Reading). answer (answered x)) (is (Refused a) q)
@@ -96,6 +96,6 @@ module _ (b : List ℕ) (h : Head) (ls : List (Tariff ℤ)) (y : Bytes b) (e : r
   -- by the task that its operation's number has
   pub task_printed : (t : Task) → file.task_of h.operation ≡ some t → printed b ≡ answer (performed h t (lend ls))
   task_printed t k =
-      let same : some held.task ≡ some t = sym held.operation-known ∙ k in
+      let same : some held.task ≡ some t = sym held.operation_known ∙ k in
       let is : held.task ≡ t = cc in
       records_printed ∙ ap (λ (t : Task). answer (performed h t (lend ls))) is

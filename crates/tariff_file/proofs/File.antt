@@ -144,8 +144,8 @@ module _ (h : Head) (ls : List (Tariff ℤ)) where
       let k = s.task in
       let c = h.combiner in
       let n = length ls in (
-        (operation_below h.operation k s.operation-known, (combiner_below k c s.right_combiner, (omega (arith, s.few_lists), tt))),
-        ap (λ o. asked_of o c n) s.operation-known ∙ (λ i. unless (le-leb n 16 s.few_lists i) TooManyLists (unless (s.right_lists i) NotTwoLists (unless (s.right_combiner i) UnknownCombiner none))),
+        (operation_below h.operation k s.operation_known, (combiner_below k c s.right_combiner, (omega (arith, s.few_lists), tt))),
+        ap (λ o. asked_of o c n) s.operation_known ∙ (λ i. unless (le-leb n 16 s.few_lists i) TooManyLists (unless (s.right_lists i) NotTwoLists (unless (s.right_combiner i) UnknownCombiner none))),
       )
 
   pub head_sound : head_fault (head_held h (length ls)) ≡ none → total (map length ls) ≤ 2048 → AllLists ls → Sound h ls
@@ -157,7 +157,7 @@ module _ (h : Head) (ls : List (Tariff ℤ)) where
           let x = unless_none (leb (length ls) 16) TooManyLists (unless (lists_right k (length ls)) NotTwoLists (unless (combiner_right k h.combiner) UnknownCombiner none)) e in
           let y = unless_none (lists_right k (length ls)) NotTwoLists (unless (combiner_right k h.combiner) UnknownCombiner none) x.1 in
           let z = unless_none (combiner_right k h.combiner) UnknownCombiner none y.1 in
-          record { task = k; operation-known = q; few_lists = leb-true (length ls) 16 x.0; right_lists = y.0; right_combiner = z.0; few_ranges = few; all_held = held }
+          record { task = k; operation_known = q; few_lists = leb-true (length ls) 16 x.0; right_lists = y.0; right_combiner = z.0; few_ranges = few; all_held = held }
 
 abbrev pub FileSound : File → Type 0
 FileSound f = Sound f.0 f.1

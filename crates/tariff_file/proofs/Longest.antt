@@ -105,7 +105,7 @@ unfolding longest_head
 longest_sound =
     record {
       task = Merge Every;
-      operation-known = refl;
+      operation_known = refl;
       few_lists = omega (arith, runs_long 128 16 0);
       right_lists = refl;
       right_combiner = refl;

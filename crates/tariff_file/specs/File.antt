@@ -190,7 +190,7 @@ AllLists (l ∷ ls) = AllRanges l × AllLists ls
 -- a head and lists that a file can hold
 pub record Sound (h : Head) (ls : List (Tariff ℤ)) : Type 0 where
   pub task : Task
-  pub operation-known : task_of h.operation ≡ some task
+  pub operation_known : task_of h.operation ≡ some task
   pub few_lists : length ls ≤ 16
   pub right_lists : lists_right task (length ls) ≡ true
   pub right_combiner : combiner_right task h.combiner ≡ true
