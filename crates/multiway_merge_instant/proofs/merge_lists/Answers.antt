@@ -1,8 +1,6 @@
 -- `multiway_merge_instant::merge_lists` meets its contract: it refuses, says what it says of no lists, or a pass concludes, the second where the first does not. Assumes nothing.
 use native.Mathlib.Omega.{arith}
-use borrow.Author.Rules.{rules}
-use Rattle.rules.specs.Lists.{instants}
-use Rattle.multiway_merge.proofs.Outcomes.{refused, merged_none, Turns, turns_first, turns_mergeable, turns_long, turns_answered, turns_again}
+use Rattle.multiway_merge.proofs.Outcomes.{refused, merged_none, turns_first, turns_mergeable, turns_answered, turns_again}
 use Rattle.multiway_merge_instant.proofs.merge_lists.Goals as goal
 
 -- something is refused

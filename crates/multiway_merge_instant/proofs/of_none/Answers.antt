@@ -2,7 +2,6 @@
 use mathlib.Core.Path.{sym, ap, ◌∙◌}
 use mathlib.Core.Option.{some}
 use native.Mathlib.Omega.{arith}
-use borrow.Author.Rules.{rules}
 use mir.Syntax.{w64}
 use Rattle.integer.proofs.Laws.{back}
 use Rattle.rules.specs.Lists.{instants}

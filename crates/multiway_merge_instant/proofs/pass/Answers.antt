@@ -1,5 +1,4 @@
 -- `multiway_merge_instant::pass` meets its contract: it is the pass of the join or of the selection that is asked for. Assumes nothing.
-use borrow.Author.Rules.{rules}
 use Rattle.multiway_merge.proofs.Operations.{takes_highest}
 use Rattle.multiway_merge_instant.proofs.pass.Goals as goal
 
