@@ -4,9 +4,8 @@
 
 ghost use Rattle.std.specs.Prelude.{◌≤◌, length, IfOk};
 
-use std::io::{self, Read, Write};
-
 use join_file::join_file;
+use std::io::{self, Read, Write};
 
 // A byte more than the longest file, so that a longer one is told.
 const MOST: usize = 45127;

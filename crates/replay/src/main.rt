@@ -5,10 +5,9 @@
 
 ghost use Rattle.std.specs.Prelude.{◌≤◌, IfOk, length as list_length};
 
+use join_file::join_file;
 use std::fs;
 use std::io::Read;
-
-use join_file::join_file;
 
 // Room for the list, a byte more than the longest, so that a longer one is told; and for a text of it.
 const LIST_ROOM: usize = 262144;
