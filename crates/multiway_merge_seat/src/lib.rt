@@ -19,7 +19,7 @@ use multiway_pass::{Pending, Piece, Ruling};
 use multiway_pass_seat::{pass as join_pass, put};
 use passes::{Conclusion, conclude, most};
 use rules::{Answer, Judgement};
-use select_pass_seat::pass as select_pass;
+use select_pass_seat::pass as selection_pass;
 
 // One pass over all stretches: how many pieces there are. They are written where `write` says so.
 fn pass(
@@ -42,7 +42,7 @@ fn pass(
         Operation::Join(admission, combiner) => join_pass(
             admission, combiner, starts, ends, values, counts, write, out_start, out_end, out_value,
         ),
-        Operation::Select(_, admission) => select_pass(
+        Operation::Select(_, admission) => selection_pass(
             admission, starts, ends, values, counts, write, out_start, out_end, out_value,
         ),
     }
