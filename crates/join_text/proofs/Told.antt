@@ -21,7 +21,7 @@ use Rattle.rules.specs.declared.Kind.{Kind}
 use Rattle.rules.specs.declared.Kind.TheVariants.{TwoWay}
 use Rattle.rules.specs.declared.Pairing.{Pairing}
 use Rattle.rules.proofs.Refusals.{given}
-use Rattle.rules.proofs.Said.{answer_of, answer-told}
+use Rattle.rules.proofs.Said.{answer_of, answer_told}
 use Rattle.many_way_rules.specs.Operations.{kind_of, merged}
 use Rattle.many_way_rules.specs.Outcomes.{merging}
 use Rattle.many_way_rules.specs.declared.Operation.{Operation}
@@ -32,7 +32,7 @@ use Rattle.printed.specs.Printed.{merge_room, pair_room, told, paired_answer, me
 
 -- an answer whose code is 0 is that of pieces
 done : (r : Answered) → code_of r ≡ 0 → r ≡ Done (number_of r)
-done r h = sym (answer-told r) ∙ ap (λ (k : ℕ). answer_of k (number_of r)) h
+done r h = sym (answer_told r) ∙ ap (λ (k : ℕ). answer_of k (number_of r)) h
 
 -- an outcome is told by its code: the pieces that the columns have, or the refusal
 module _ {C : Type 0} (pieces : C → ℕ → Answer) (o : Outcome C) (r : Answered) (d : C) (e : leaves r d ≡ o) where

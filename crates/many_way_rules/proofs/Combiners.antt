@@ -24,22 +24,22 @@ answers (suc (suc (suc zero))) vs = inl (omega arith, (_, refl))
 answers (suc (suc (suc (suc zero)))) vs = inl (omega arith, (_, refl))
 answers (suc (suc (suc (suc (suc i))))) vs = inr (omega arith, refl)
 
-tells-known : (c : ℕ) → Tells (known c) ((0 < c) × (c ≤ 5))
-tells-known c = tells_both (tells_lt 0 c) (tells_le c 5)
+tells_known : (c : ℕ) → Tells (known c) ((0 < c) × (c ≤ 5))
+tells_known c = tells_both (tells_lt 0 c) (tells_le c 5)
 
 -- a number is no combiner's exactly where it has no answer
 pub known_exactly : (c : ℕ) (vs : List ℤ) → (known c ≡ false) ↔ (combine c vs ≡ none)
 known_exactly zero vs = (λ h. refl, λ h. refl)
 known_exactly (suc i) vs =
     ⊎_elim
-    (λ a. (λ q. absurd ((tells-known (suc i)).no q (omega arith)), λ q. absurd (none≢some a.1.0 (sym q ∙ a.1.1))))
-    (λ a. (λ q. a.1, λ q. tells_not_holds (tells-known (suc i)) (λ k. omega arith)))
+    (λ a. (λ q. absurd ((tells_known (suc i)).no q (omega arith)), λ q. absurd (none≢some a.1.0 (sym q ∙ a.1.1))))
+    (λ a. (λ q. a.1, λ q. tells_not_holds (tells_known (suc i)) (λ k. omega arith)))
     (answers i vs)
 
 -- over no values each gives 0
 pub combine_nothing : (c : ℕ) → known c ≡ true → combine c [] ≡ some (pos 0)
 combine_nothing zero h = absurd (false≢true h)
-combine_nothing (suc i) h = get_or-replicate 5 i (some (pos 0)) none (omega (arith, (tells-known (suc i)).yes h))
+combine_nothing (suc i) h = get_or-replicate 5 i (some (pos 0)) none (omega (arith, (tells_known (suc i)).yes h))
 
 -- 1: one value more, wherever it stands, is added, and the order does not matter
 pub swapped : (a b c : ℤ) → a +ℤ (b +ℤ c) ≡ b +ℤ (a +ℤ c)

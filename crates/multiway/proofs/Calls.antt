@@ -108,7 +108,7 @@ module _ {P : Type 0} {Fits : P → Type 0} {w : Width P} (f : Faithful w Fits) 
 
   -- the list that is cut stands above some lists and below others; its range x, cut after its point m, stands between xs and ys
   module _ (x : Range) (m : ℕ) (low : x.start ≤ m) (high : m < x.end) (xs ys : List Range) (below above : List (List Range)) where
-    pub calls-cut : {o : Operation} {l l' : Lent P} {c d c' d' : Merged P} {n n' : ℕ} → Call o l c d n → Call o l' c' d' n' → lists w l ≡ below ++ (xs ++ x ∷ ys) ∷ above → lists w l' ≡ below ++ (xs ++ halves x m ys) ∷ above → (n ≡ n') × (written n d ≡ written n' d')
-    calls-cut {o} k k' e e' =
+    pub calls_cut : {o : Operation} {l l' : Lent P} {c d c' d' : Merged P} {n n' : ℕ} → Call o l c d n → Call o l' c' d' n' → lists w l ≡ below ++ (xs ++ x ∷ ys) ∷ above → lists w l' ≡ below ++ (xs ++ halves x m ys) ∷ above → (n ≡ n') × (written n d ≡ written n' d')
+    calls_cut {o} k k' e e' =
         let q = ap (merged o w.points) e ∙ merged_cut x m low high xs ys below above w.points o (rw e at (formed k)) ∙ ap (merged o w.points) (sym e') in
         (counted k ∙ ap length q ∙ sym (counted k'), rows_are k ∙ ap rows q ∙ sym (rows_are k'))

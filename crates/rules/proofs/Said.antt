@@ -15,20 +15,20 @@ said e p q = record { code = p ∙ ap (λ o. code_of o.answer) e; number = q ∙
 abbrev pub answer_of : ℕ → ℕ → Answer
 answer_of code number = get_or (Done number ∷ TooManyLists ∷ NotTwoLists ∷ TooManyRanges ∷ ColumnsDiffer ∷ Backward number ∷ Overlap number ∷ UnknownCombiner ∷ []) code (NoRoom number)
 
-pub answer-told : (a : Answer) → answer_of (code_of a) (number_of a) ≡ a
-answer-told (Done n) = refl
-answer-told TooManyLists = refl
-answer-told NotTwoLists = refl
-answer-told TooManyRanges = refl
-answer-told ColumnsDiffer = refl
-answer-told (Backward i) = refl
-answer-told (Overlap i) = refl
-answer-told UnknownCombiner = refl
-answer-told (NoRoom n) = refl
+pub answer_told : (a : Answer) → answer_of (code_of a) (number_of a) ≡ a
+answer_told (Done n) = refl
+answer_told TooManyLists = refl
+answer_told NotTwoLists = refl
+answer_told TooManyRanges = refl
+answer_told ColumnsDiffer = refl
+answer_told (Backward i) = refl
+answer_told (Overlap i) = refl
+answer_told UnknownCombiner = refl
+answer_told (NoRoom n) = refl
 
 -- what is said is the whole outcome
 pub said_tells : {C : Type 0} {o : Outcome C} {code number : ℕ} {c : C} → Said o code number c → leaves (answer_of code number) c ≡ o
-said_tells {o} s = rw (s.code, s.number, s.columns, answer-told o.answer)
+said_tells {o} s = rw (s.code, s.number, s.columns, answer_told o.answer)
 
 -- two answers that say one outcome are equal
 pub said_only : {C : Type 0} {o : Outcome C} {code code' number number' : ℕ} {c c' : C} → Said o code number c → Said o code' number' c' → (code ≡ code') × (number ≡ number') × (c ≡ c')

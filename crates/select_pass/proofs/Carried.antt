@@ -63,8 +63,8 @@ module _ (a : Admission) (act : Held) {b : Bool} (e : b ≡ admitted a act) wher
 
 -- an event of a list
 module _ {current : List ℤ} {active : Active} {act : Held} (k : Carried current active act) {list : ℕ} (l : list < length act) where
-  pub list-known : (b : Bool) → there (get_or act list none) ≡ b → Known (Stands active) list b
-  list-known b e = record { small = omega (arith, k.few); set = has act; stands = k.stands; is = e }
+  pub list_known : (b : Bool) → there (get_or act list none) ≡ b → Known (Stands active) list b
+  list_known b e = record { small = omega (arith, k.few); set = has act; stands = k.stands; is = e }
 
   module _ {active' : Active} where
     -- it begins with a value
@@ -107,7 +107,7 @@ module _ (e : Step) {y : Span} {list : ℕ} {v : ℤ} {z : Sizes} (h : e ≡ Sta
   start_fits act f = rw h at f
 
   pub start_due : {current : List ℤ} {active : Active} → Due (Carried current active) e → Known (Stands active) list false
-  start_due d = let f = start_fits d.0 d.2 in list-known d.1 f.0 false (ap there f.1)
+  start_due d = let f = start_fits d.0 d.2 in list_known d.1 f.0 false (ap there f.1)
 
   module _ {current : List ℤ} {active : Active} {act : Held} (k : Carried current active act) (f : Fits e act) where
     pub start_idle : has act list ≡ false
@@ -121,7 +121,7 @@ module _ (e : Step) {at list : ℕ} {z : Sizes} (h : e ≡ End at list z) where
   end_fits act f = rw h at f
 
   pub end_due : {current : List ℤ} {active : Active} → Due (Carried current active) e → Known (Stands active) list true
-  end_due d = let f = end_fits d.0 d.2 in list-known d.1 f.0 true f.1
+  end_due d = let f = end_fits d.0 d.2 in list_known d.1 f.0 true f.1
 
   module _ {current : List ℤ} {active : Active} {act : Held} (k : Carried current active act) (f : Fits e act) where
     pub end_active : has act list ≡ true

@@ -7,5 +7,5 @@ use Rattle.rules.specs.Outcomes.{pairing}
 use Rattle.rules.specs.declared.Pairing.{Pairing}
 use Rattle.rules.proofs.TwoWay.{SameRanges, Alike, AlikeOutcomes, values_alter_nothing}
 
-pub calls-alike : {P : Type 0} (w : Width P) (o : Pairing) (l l' : Lent P) (c c' : Paired P) (first second : Outcome (Paired P)) → first ≡ pairing w o l c → second ≡ pairing w o l' c' → SameRanges l l' → Alike c c' → AlikeOutcomes first second
-calls-alike w o l l' c c' first second p q ranges alike = subst₂ AlikeOutcomes (sym p) (sym q) (values_alter_nothing w o l l' c c' ranges alike)
+pub calls_alike : {P : Type 0} (w : Width P) (o : Pairing) (l l' : Lent P) (c c' : Paired P) (first second : Outcome (Paired P)) → first ≡ pairing w o l c → second ≡ pairing w o l' c' → SameRanges l l' → Alike c c' → AlikeOutcomes first second
+calls_alike w o l l' c c' first second p q ranges alike = subst₂ AlikeOutcomes (sym p) (sym q) (values_alter_nothing w o l l' c c' ranges alike)

@@ -30,8 +30,7 @@ emit-next-requires c = (c.loop-left.invariant.1.act, c.loop-left.invariant.1.car
 pub take-stretch_start-requires : goal.take-stretch_start-requires
 take-stretch_start-requires c =
     let k = taking c.loop-left.invariant.1 c.step-event.result (c.step-event.ensures _ c.loop-left.invariant.1.sweeping) c.loop-left-test.true in
-    let r = c.emit-next.ensures c.loop-left.invariant.1.act c.loop-left.invariant.1.carried (held_length c.loop-left.invariant.1) in
-    (c.loop-left.invariant.1.act, r.1, k.fits)
+    (c.loop-left.invariant.1.act, (c.emit-next.ensures c.loop-left.invariant.1.act c.loop-left.invariant.1.carried (held_length c.loop-left.invariant.1)).1, k.fits)
 
 -- there is a piece: it is pushed to what is pending, and what is done is put
 pub push_merged-pushed-requires : goal.push_merged-pushed-requires
