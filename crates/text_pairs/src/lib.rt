@@ -66,7 +66,8 @@ fn put_row(
     place: usize,
     out: &mut [u8],
 ) -> usize
-    requires { Pairs (columns start.now end.now left.now right.now presence.now) (i + 1) × Room place (pair_text (columns start.now end.now left.now right.now presence.now) i) out.old }
+    requires { let c = columns start.now end.now left.now right.now presence.now in
+        Pairs c (i + 1) × Room place (pair_text c i) out.old }
     ensures { Put place (pair_text (columns start.now end.now left.now right.now presence.now) i) out.old out.new result }
 {
     let there = presence[i];
@@ -87,7 +88,8 @@ pub fn put_rows(
     place: usize,
     out: &mut [u8],
 ) -> usize
-    requires { Pairs (columns start.now end.now left.now right.now presence.now) n × Room place (pairs_text (columns start.now end.now left.now right.now presence.now) n) out.old }
+    requires { let c = columns start.now end.now left.now right.now presence.now in
+        Pairs c n × Room place (pairs_text c n) out.old }
     ensures { Put place (pairs_text (columns start.now end.now left.now right.now presence.now) n) out.old out.new result }
 {
     let mut at = place;
