@@ -1,41 +1,40 @@
 -- What a value keeps, when a list is marked, enters the heap or leaves it. Assumes nothing.
 use Prim.Native.Nat.{ℕ, ◌+◌, ◌-◌, ◌<◌, ◌≤◌}
 use mathlib.Core.Path.{◌≡◌, refl, sym, ap, ◌∙◌}
-use mathlib.Core.Bool.{Bool, true, false, cond, not}
+use mathlib.Core.Bool.{Bool, true, false, cond, true≢false}
+use mathlib.Core.List.{List}
 use native.Mathlib.Omega.{arith}
-use lib.Dec.{eqb}
-use lib.ListN.{length, get_or, set, replicate, length-set, get_or-replicate}
-use lib.Seq.{get_or-set_same, get_or-set_other, take-set-le}
-use borrow.Author.Tests.{eqb-true, eq-eqb, ne_eqb}
-use Rattle.heap.specs.Order.{one}
-use Rattle.heap.specs.Heap.{Heap, many, Pushed, Popped}
+use lib.ListN.{length, get_or, set, length-set, replicate, get_or-map, get_or-replicate}
+use lib.Seq.{map-set_same}
+use Rattle.std.proofs.lemmas.List.{map-set, length-map}
+use borrow.Author.Rules.{rules}
+use denote.Enum.Bare.{sameb, same_true, same_false}
+use Rattle.heap.specs.Order.{Ordered, one, count}
+use Rattle.heap.specs.Heap.{Heap}
+use Rattle.heap.specs.Holes.{Climbed, Sifted}
 use Rattle.heap.proofs.Laws.{by_eq, one_same, one_other, count_none, count_at, top_counted, heap_none}
 use Rattle.heap.proofs.Moves.{pushed, popped}
-use Rattle.active_lists.specs.Active.{Set, nobody, but, with, without, bit, number, Alike, HighestIn}
-use Rattle.active_lists.specs.Kept.{Active, rank, places, mark, entered, len, count, Keeps, Stands, kept, Beside, Rose, Sank, Stale, Dropped}
-use Rattle.active_lists.proofs.Sets.{but_here, but_other, number_none, number_same, number_upto, number_but}
-use Rattle.active_lists.proofs.Places.{read}
+use Rattle.active_lists.specs.Active.{nobody, but, bit, number, Alike, HighestIn, members}
+use Rattle.active_lists.specs.Kept.{rank, ranks, is_on, is_in, mark, on, active, entered, Keeps}
+use Rattle.active_lists.specs.contracts.Mark.{the_type}
+use Rattle.active_lists.specs.declared.Heaped.{Heaped}
+use Rattle.active_lists.specs.declared.Mark.{Mark}
+use Rattle.active_lists.specs.declared.Mark.TheVariants.{Out, Ended, On}
+use Rattle.active_lists.specs.declared.Active.TheInside.{Inside}
+use Rattle.active_lists.proofs.Sets.{but_here, but_other, number_none, number_same, number_upto, number_but, told_set}
 
-pub opened : {a : Active} {f : Set} → Stands a f → Keeps a f
-opened (kept s) = s
+-- the marks of all lists, as a caller sees them
+pub seen : (marks : List Mark) (list : ℕ) → members (on marks) list ≡ active marks list
+seen marks list = get_or-map is_on marks list Out
 
--- a value keeps every set that has the same of the sixteen
-pub keeps_same : {a : Active} {f g : Set} → Keeps a f → Alike f g → Keeps a g
-keeps_same {a} {f} {g} s h = record {
-  whole = s.whole;
-  marks = λ i l. sym (h i l) ∙ s.marks i l;
-  counts = s.counts ∙ number_same f g h;
-  long = s.long;
-  heap = s.heap;
-  once = s.once;
-  only = s.only;
-}
+pub told_by : {a : List Bool} (marks : List Mark) (list : ℕ) {b : Bool} → on marks ≡ a → members a list ≡ b → active marks list ≡ b
+told_by marks list e h = sym (seen marks list) ∙ ap (λ xs. get_or xs list false) e ∙ h
 
--- b has the marks of a, but m for one list
-pub record Marked (a b : Active) (list m : ℕ) : Type 0 where
-  pub whole : length b ≡ 34
-  pub here : mark b list ≡ m
-  pub other : (i : ℕ) → i < 16 → (i ≡ list → ⊥) → mark b i ≡ mark a i
+-- one list is marked
+pub changed : {a : List Bool} (marks : List Mark) (list : ℕ) (m : Mark) → on marks ≡ a → length marks ≡ 16 → list < 16 → Alike (members (on (set marks list m))) (but (members a) list (is_on m))
+changed {a} marks list m e w l i k =
+    let h : list < length a = omega (arith, ap length e, length-map marks is_on) in
+    ap (λ xs. get_or xs i false) (map-set is_on marks list m ∙ ap (λ xs. set xs list (is_on m)) e) ∙ sym (told_set (λ t. t) false a list (is_on m) h i k)
 
 -- the entry of a list, where there is one
 abbrev share : ℕ → ℕ → Bool → ℕ
@@ -57,222 +56,175 @@ share_other : (e list : ℕ) (t : Bool) → (e ≡ rank list → ⊥) → share 
 share_other e list true ne = one_other e (rank list) ne
 share_other e list false ne = refl
 
-module _ {a b : Active} {f : Set} {list m : ℕ} (s : Keeps a f) (l : list < 16) (t : Marked a b list m) where
-  abbrev was : Bool
-  was = entered a list
+-- what a test of two marks tells
+pub same_mark : {m n : Mark} → sameb the_type m n ≡ true → m ≡ n
+same_mark {m} {n} e = same_true the_type (search rules) m n e
 
-  abbrev is : Bool
-  is = not (eqb m 0)
+pub other_mark : {m n : Mark} → sameb the_type m n ≡ false → m ≡ n → ⊥
+other_mark {m} {n} e = same_false the_type m n e
 
-  -- what the marks tell
-  told : (is : ℕ → Bool) (g : Set) → Alike g (λ i. is (mark a i)) → Alike (but g list (is m)) (λ i. is (mark b i))
-  told is g h i k =
-      by_eq i list
-      (λ e. ap (but g list (is m)) e ∙ but_here g list (is m) ∙ ap is (sym (ap (mark b) e ∙ t.here)))
-      (λ ne. but_other g list (is m) i ne ∙ h i k ∙ ap is (sym (t.other i k ne)))
+-- a list that is active is in the heap
+on_in : (m : Mark) → is_on m ≡ true → is_in m ≡ true
+on_in On e = refl
+on_in Ended e = absurd (true≢false (sym e))
+on_in Out e = absurd (true≢false (sym e))
 
-  entries : Alike (but (entered a) list is) (entered b)
-  entries = told (λ x. not (eqb x 0)) (entered a) (λ i k. refl)
+off_in : (m : Mark) → is_on m ≡ false → (m ≡ Out → ⊥) → is_in m ≡ true
+off_in On e h = refl
+off_in Ended e h = refl
+off_in Out e h = absurd (h refl)
 
-  -- the one law: the list's mark becomes m, and its entry in the heap goes by that
-  marked : count b ≡ number (but f list (eqb m 2)) → Heap (places b) (len b) → len b + bit was ≡ len a + bit is → ((e : ℕ) → many (places b) (len b) e + share e list was ≡ many (places a) (len a) e + share e list is) → Keeps b (but f list (eqb m 2))
-  marked c o n h = record {
-    whole = t.whole;
-    marks = told (λ x. eqb x 2) f s.marks;
-    counts = c;
-    long = omega (arith, s.long, number_same (but (entered a) list is) (entered b) entries, number_but (entered a) list is l);
-    heap = o;
-    once = λ i k.
-        by_eq i list
-        (λ e.
-        omega (
-          arith,
-          s.once list l,
-          h (rank list),
-          share_here list was,
-          share_here list is,
-          ap (λ x. many (places b) (len b) (rank x)) e,
-          ap bit (sym (entries i k) ∙ ap (but (entered a) list is) e ∙ but_here (entered a) list is),
-        ))
-        (λ ne.
-        let na = rank_apart k l ne in
-        omega (
-          arith,
-          s.once i k,
-          h (rank i),
-          share_other (rank i) list was na,
-          share_other (rank i) list is na,
-          ap bit (sym (entries i k) ∙ but_other (entered a) list is i ne),
-        ));
-    only = λ e m.
-        by_eq e (rank list)
-        (λ q. omega (arith, rank_high l))
-        (λ ne. s.only e (omega (arith, h e, share_other e list was ne, share_other e list is ne)));
-  }
-
--- stores beside the heap
-marked_set : (a : Active) (list m : ℕ) → length a ≡ 34 → list < 16 → Marked a (set a (16 + list) m) list m
-marked_set a list m w l = record {
-  whole = length-set a (16 + list) m ∙ w;
-  here = get_or-set_same a (16 + list) m 0 (omega arith);
-  other = λ i k ne. get_or-set_other a (16 + list) (16 + i) m 0 (λ e. ne (omega arith));
-}
-
-module _ {a b : Active} {list m : ℕ} (l : list < 16) (t : Marked a b list m) where
-  marked_on : (i x : ℕ) → 32 ≤ i → Marked a (set b i x) list m
-  marked_on i x h = record {
-    whole = length-set b i x ∙ t.whole;
-    here = get_or-set_other b i (16 + list) x 0 (omega arith) ∙ t.here;
-    other = λ j k ne. get_or-set_other b i (16 + j) x 0 (omega arith) ∙ t.other j k ne;
-  }
-
-  marked_beside : {d : Active} → Beside b d → Marked a d list m
-  marked_beside r = record {
-    whole = r.whole ∙ t.whole;
-    here = r.same (16 + list) (omega arith) ∙ t.here;
-    other = λ j k ne. r.same (16 + j) (omega arith) ∙ t.other j k ne;
-  }
-
-places_on : (a : Active) (i x : ℕ) → 16 ≤ i → places (set a i x) ≡ places a
-places_on a i x h = ap (λ k. record { at = λ j. rank (get_or k j 0); keys = length k; lists = length k }) (take-set-le 16 a i x h)
+pub off : (m : Mark) → (m ≡ On → ⊥) → is_on m ≡ false
+off On h = absurd (h refl)
+off Ended h = refl
+off Out h = refl
 
 -- no list is active, and the heap is empty
-pub keeps_idle : Keeps (replicate 34 0) nobody
+pub keeps_idle : Keeps (record { heap = record { lists = replicate 16 0 }; marks = replicate 16 Out; len = 0; count = 0 })
 keeps_idle =
-    let z : (i : ℕ) → i < 16 → mark (replicate 34 0) i ≡ 0 = λ i l. get_or-replicate 34 (16 + i) 0 0 (omega arith) in
+    let z : (is : Mark → Bool) (i : ℕ) → i < 16 → is (mark (replicate 16 Out) i) ≡ is Out = λ is i l. ap is (get_or-replicate 16 i Out Out l) in
     record {
       whole = refl;
-      marks = λ i l. rw (z i l);
-      counts = sym number_none;
-      long = sym (number_same (entered (replicate 34 0)) nobody (λ i l. rw (z i l)) ∙ number_none);
-      heap = heap_none (record { keys = refl; lists = refl });
-      once = λ i l. rw (z i l) (count_none _ (rank i));
-      only = λ e m. absurd (omega (arith, count_none (places (replicate 34 0)).at e));
+      counts = sym (number_same (active (replicate 16 Out)) nobody (z is_on) ∙ number_none);
+      long = sym (number_same (entered (replicate 16 Out)) nobody (z is_in) ∙ number_none);
+      ordered = (heap_none {f = ranks (record { lists = replicate 16 0 })}).ordered;
+      once = λ i l. rw (z is_in i l) (count_none _ (rank i));
+      only = λ e m. absurd (omega (arith, count_none (ranks (record { lists = replicate 16 0 })) e));
     }
 
-module _ {a : Active} {f : Set} (s : Keeps a f) where
-  -- one list more is active, or one less
-  pub more : {list : ℕ} → list < 16 → f list ≡ false → count a + 1 ≡ number (with f list)
-  more {list} l e = omega (arith, s.counts, number_but f list true l, ap bit e)
+module _ {a : Inside} (s : Keeps a) where
+  -- the heap is as long as lists were entered
+  pub short : a.len ≤ 16
+  short = omega (arith, s.long, number_upto (entered a.marks))
 
-  pub less : {list : ℕ} → list < 16 → f list ≡ true → count a ≡ number (without f list) + 1
-  less {list} l e = omega (arith, s.counts, number_but f list false l, ap bit e)
+  heaped : Heap (ranks a.heap) a.len
+  heaped = record { small = short; ordered = s.ordered }
 
-  -- one list more is in the heap
-  pub longer : {list : ℕ} → list < 16 → mark a list ≡ 0 → len a < 16
-  longer {list} l e =
-      let g : bit (entered a list) ≡ 0 = rw e in
-      omega (arith, s.long, number_upto (but (entered a) list true), number_but (entered a) list true l)
+  pub few : a.count ≤ 16
+  few = omega (arith, s.counts, number_upto (active a.marks))
 
-  -- a list in the heap begins or ends
-  turns : {list k : ℕ} (m : ℕ) → list < 16 → entered a list ≡ true → not (eqb m 0) ≡ true → k ≡ number (but f list (eqb m 2)) → Keeps (set (set a (16 + list) m) 33 k) (but f list (eqb m 2))
-  turns {list} {k} m l e g c =
-      let b = set a (16 + list) m in
-      let d = set b 33 k in
-      let p : places d ≡ places a = places_on b 33 k (omega arith) ∙ places_on a (16 + list) m (omega arith) in
-      let n : len d ≡ len a = get_or-set_other b 33 32 k 0 (omega arith) ∙ get_or-set_other a (16 + list) 32 m 0 (omega arith) in
-      marked s l (marked_on l (marked_set a list m s.whole l) 33 k (omega arith))
-      (get_or-set_same b 33 k 0 (omega (arith, length-set a (16 + list) m, s.whole)) ∙ c)
-      (rw (p, n) s.heap)
-      (omega (arith, ap bit e, ap bit g))
-      (λ x. omega (arith, ap (λ t. share x list t) e, ap (λ t. share x list t) g, ap (λ h. many h (len d) x) p, ap (λ i. many (places a) i x) n))
+  module _ {list : ℕ} (l : list < 16) where
+    abbrev was : Bool
+    was = entered a.marks list
 
-  pub begins_again : {list : ℕ} → list < 16 → f list ≡ false → (mark a list ≡ 0 → ⊥) → Keeps (set (set a (16 + list) 2) 33 (count a + 1)) (with f list)
-  begins_again {list} l e g = turns 2 l (ap not (ne_eqb (mark a list) 0 g)) refl (more l e)
+    told : (is : Mark → Bool) (m : Mark) → Alike (but (λ i. is (mark a.marks i)) list (is m)) (λ i. is (mark (set a.marks list m) i))
+    told is m = told_set is Out a.marks list m (omega (arith, s.whole))
 
-  pub ends : {list : ℕ} → list < 16 → f list ≡ true → Keeps (set (set a (16 + list) 1) 33 (count a - 1)) (without f list)
-  ends {list} l e =
-      let on : mark a list ≡ 2 = eqb-true (mark a list) 2 (sym (s.marks list l) ∙ e) in
-      turns 1 l (rw on) refl (omega (arith, less l e))
+    tells : (is : Mark → Bool) (m : Mark) → number (λ i. is (mark (set a.marks list m) i)) + bit (is (mark a.marks list)) ≡ number (λ i. is (mark a.marks i)) + bit (is m)
+    tells is m = omega (arith, number_same _ _ (told is m), number_but (λ i. is (mark a.marks i)) list (is m) l)
 
-  -- a list enters the heap and begins
-  pub enters : {b : Active} {list : ℕ} → list < 16 → f list ≡ false → mark a list ≡ 0 → Rose (set (set (set a (16 + list) 2) 33 (count a + 1)) 32 (len a + 1)) b (len a) list → Keeps b (with f list)
-  enters {b} {list} l e z r =
-      let g : entered a list ≡ false = rw z in
-      let k = count a + 1 in
-      let n = len a + 1 in
-      let x = set a (16 + list) 2 in
-      let y = set x 33 k in
-      let d = set y 32 n in
-      let w : length y ≡ 34 = length-set x 33 k ∙ length-set a (16 + list) 2 ∙ s.whole in
-      let p : places d ≡ places a = places_on y 32 n (omega arith) ∙ places_on x 33 k (omega arith) ∙ places_on a (16 + list) 2 (omega arith) in
-      let u : Pushed (places a) (places b) (len a) (rank list) = pushed s.heap (longer l z) (rw p at r.climbed) in
-      let q : len b ≡ len a + 1 = r.beside.same 32 (omega arith) ∙ get_or-set_same y 32 n 0 (omega arith) in
-      let c : count b ≡ count a + 1 =
-      r.beside.same 33 (omega arith) ∙ get_or-set_other y 32 33 n 0 (omega arith) ∙ get_or-set_same x 33 k 0 (omega (arith, length-set x 33 k))
-      in
-      marked s l (marked_beside l (marked_on l (marked_on l (marked_set a list 2 s.whole l) 33 k (omega arith)) 32 n (omega arith)) r.beside)
-      (c ∙ more l e)
-      (rw q u.heap)
-      (omega (arith, ap bit g))
-      (λ z. omega (arith, ap (λ t. share z list t) g, u.kept z, ap (λ i. many (places b) i z) q))
+    -- the one law: the list's mark becomes m, and its entry in the heap goes by that
+    marked : (h : Heaped) (n k : ℕ) (m : Mark) → k + bit (active a.marks list) ≡ a.count + bit (is_on m) → n + bit was ≡ a.len + bit (is_in m) → Ordered (ranks h) n → ((e : ℕ) → count e (ranks h) n + share e list was ≡ count e (ranks a.heap) a.len + share e list (is_in m)) → Keeps (record { heap = h; marks = set a.marks list m; len = n; count = k })
+    marked h n k m c g o r = record {
+      whole = length-set a.marks list m ∙ s.whole;
+      counts = omega (arith, tells is_on m, s.counts);
+      long = omega (arith, tells is_in m, s.long);
+      ordered = o;
+      once = λ i j.
+          let t : entered (set a.marks list m) i ≡ but (entered a.marks) list (is_in m) i = sym (told is_in m i j) in
+          by_eq i list
+          (λ e.
+          omega (
+            arith,
+            s.once list l,
+            r (rank list),
+            share_here list was,
+            share_here list (is_in m),
+            ap (λ x. count (rank x) (ranks h) n) e,
+            ap bit (t ∙ ap (but (entered a.marks) list (is_in m)) e ∙ but_here (entered a.marks) list (is_in m)),
+          ))
+          (λ ne.
+          let na = rank_apart j l ne in
+          omega (
+            arith,
+            s.once i j,
+            r (rank i),
+            share_other (rank i) list was na,
+            share_other (rank i) list (is_in m) na,
+            ap bit (t ∙ but_other (entered a.marks) list (is_in m) i ne),
+          ));
+      only = λ e j.
+          by_eq e (rank list)
+          (λ q. omega (arith, rank_high l))
+          (λ ne. s.only e (omega (arith, r e, share_other e list was ne, share_other e list (is_in m) ne)));
+    }
+
+    -- a list in the heap begins or ends
+    turns : (k : ℕ) (m : Mark) → was ≡ true → is_in m ≡ true → k + bit (active a.marks list) ≡ a.count + bit (is_on m) → Keeps (record { heap = a.heap; marks = set a.marks list m; len = a.len; count = k })
+    turns k m x y c = marked a.heap a.len k m c (omega (arith, ap bit x, ap bit y)) s.ordered (λ e. ap (λ t. count e (ranks a.heap) a.len + share e list t) (x ∙ sym y))
+
+    pub begins_again : active a.marks list ≡ false → (mark a.marks list ≡ Out → ⊥) → Keeps (record { heap = a.heap; marks = set a.marks list On; len = a.len; count = a.count + 1 })
+    begins_again f g = turns (a.count + 1) On (off_in (mark a.marks list) f g) refl (omega (arith, ap bit f))
+
+    pub some : active a.marks list ≡ true → 0 < a.count
+    some t = omega (arith, s.counts, number_but (active a.marks) list false l, ap bit t)
+
+    pub ends : active a.marks list ≡ true → Keeps (record { heap = a.heap; marks = set a.marks list Ended; len = a.len; count = a.count - 1 })
+    ends t = turns (a.count - 1) Ended (on_in (mark a.marks list) t) refl (omega (arith, some t, ap bit t))
+
+    -- one list more is in the heap
+    module _ (z : mark a.marks list ≡ Out) where
+      pub room : a.len < 16
+      room = omega (arith, s.long, number_upto (but (entered a.marks) list true), number_but (entered a.marks) list true l, ap (λ m. bit (is_in m)) z)
+
+      pub enters : (h : Heaped) → Climbed (ranks a.heap) (ranks h) a.len (rank list) → Keeps (record { heap = h; marks = set a.marks list On; len = a.len + 1; count = a.count + 1 })
+      enters h r =
+          let u = pushed heaped room r in
+          marked h (a.len + 1) (a.count + 1) On
+          (omega (arith, ap (λ m. bit (is_on m)) z))
+          (omega (arith, ap (λ m. bit (is_in m)) z))
+          u.heap.ordered
+          (λ e. omega (arith, u.kept e, ap (λ m. share e list (is_in m)) z))
 
   -- a list that is active is in the heap
-  on_many : {i : ℕ} → i < 16 → mark a i ≡ 2 → 0 < many (places a) (len a) (rank i)
-  on_many {i} l on = let z : bit (entered a i) ≡ 1 = rw on in omega (arith, s.once i l)
+  on_many : {i : ℕ} → i < 16 → active a.marks i ≡ true → 0 < count (rank i) (ranks a.heap) a.len
+  on_many {i} l t = omega (arith, s.once i l, ap bit (on_in (mark a.marks i) t))
 
   -- the top of the heap
-  module _ (h : 0 < len a) where
-    top_many : 0 < many (places a) (len a) (rank (get_or a 0 0))
-    top_many = rw (read a 0 (omega arith)) at (count_at (places a).at (len a) 0 h)
+  module _ (nonempty : 0 < a.len) where
+    abbrev top : ℕ
+    top = get_or a.heap.lists 0 0
 
-    pub top_small : get_or a 0 0 < 16
+    pub top_small : top < 16
     unfolding rank
-    top_small = omega (arith, s.only (rank (get_or a 0 0)) top_many)
+    top_small = omega (arith, s.only (rank top) (count_at (ranks a.heap) a.len 0 nonempty))
 
-    pub top_entered : entered a (get_or a 0 0) ≡ true
-    top_entered = go (entered a (get_or a 0 0)) refl
+    top_entered : entered a.marks top ≡ true
+    top_entered = go (entered a.marks top) refl
       where
-        go : (t : Bool) → entered a (get_or a 0 0) ≡ t → t ≡ true
+        go : (t : Bool) → entered a.marks top ≡ t → t ≡ true
         go true e = refl
-        go false e = absurd (omega (arith, s.once (get_or a 0 0) top_small, top_many, ap bit e))
+        go false e = absurd (omega (arith, s.once top top_small, count_at (ranks a.heap) a.len 0 nonempty, ap bit e))
 
     -- it is dropped where it ended
-    leaves : {b : Active} → (mark a (get_or a 0 0) ≡ 2 → ⊥) → Sank (set (set a (16 + get_or a 0 0) 0) 32 (len a - 1)) b (len a - 1) 0 (get_or a (len a - 1) 0) → Keeps b f
-    leaves {b} ended r =
-        let top = get_or a 0 0 in
-        let l : top < 16 = top_small in
-        let n = len a - 1 in
-        let x = set a (16 + top) 0 in
-        let d = set x 32 n in
-        let w : length x ≡ 34 = length-set a (16 + top) 0 ∙ s.whole in
-        let p : places d ≡ places a = places_on x 32 n (omega arith) ∙ places_on a (16 + top) 0 (omega arith) in
-        let last : (places a).at n ≡ rank (get_or a n 0) = read a n (omega (arith, s.heap.small)) in
-        let u : Popped (places a) (places b) (len a) = popped s.heap h (rw last (rw p at r.sifted)) in
-        let q : len b ≡ n = r.beside.same 32 (omega arith) ∙ get_or-set_same x 32 n 0 (omega arith) in
-        let c : count b ≡ count a = r.beside.same 33 (omega arith) ∙ get_or-set_other x 32 33 n 0 (omega arith) ∙ get_or-set_other a (16 + top) 33 0 0 (omega arith) in
-        let off : f top ≡ false = s.marks top l ∙ ne_eqb (mark a top) 2 ended in
-        let stays : Alike (without f top) f = λ i k. by_eq i top (λ e. ap (without f top) e ∙ but_here f top false ∙ sym off ∙ sym (ap f e)) (λ ne. but_other f top false i ne) in
-        keeps_same
-        (marked s l (marked_beside l (marked_on l (marked_set a top 0 s.whole l) 32 n (omega arith)) r.beside)
-        (c ∙ s.counts ∙ sym (number_same (without f top) f stays))
-        (rw q u.heap)
+    pub leaves : (h : Heaped) → (mark a.marks top ≡ On → ⊥) → Sifted (ranks a.heap) (ranks h) (a.len - 1) 0 (ranks a.heap (a.len - 1)) → Keeps (record { heap = h; marks = set a.marks top Out; len = a.len - 1; count = a.count })
+    leaves h ended r =
+        let u = popped heaped nonempty r in
+        marked top_small h (a.len - 1) a.count Out
+        (omega (arith, ap bit (off (mark a.marks top) ended)))
         (omega (arith, ap bit top_entered))
-        (λ z. omega (arith, ap (λ t. share z top t) top_entered, u.kept z, ap (λ i. many (places b) i z) q, ap (one z) (read a 0 (omega arith)))))
-        stays
+        u.heap.ordered
+        (λ e. omega (arith, ap (λ t. share e top t) top_entered, u.kept e))
+
+    -- and the active ones stay
+    pub same : (mark a.marks top ≡ On → ⊥) → on (set a.marks top Out) ≡ on a.marks
+    same ended = map-set_same is_on a.marks top Out Out (sym (off (mark a.marks top) ended))
 
     -- it is the highest where it is active
-    pub top_highest : mark a (get_or a 0 0) ≡ 2 → HighestIn f (get_or a 0 0)
+    pub top_highest : mark a.marks top ≡ On → HighestIn (members (on a.marks)) top
     unfolding rank
-    top_highest on = record {
+    top_highest t = record {
       small = top_small;
-      inside = s.marks (get_or a 0 0) top_small ∙ eq-eqb (mark a (get_or a 0 0)) 2 on;
+      inside = seen a.marks top ∙ ap is_on t;
       above = λ i l e.
-          let m = on_many l (eqb-true (mark a i) 2 (sym (s.marks i l) ∙ e)) in
-          omega (arith, top_counted (places a).at (rank i) (len a) s.heap.ordered m, read a 0 (omega arith), top_small);
+          let m = on_many l (sym (seen a.marks i) ∙ e) in
+          omega (arith, top_counted (ranks a.heap) (rank i) a.len s.ordered m, top_small);
     }
 
   -- none is active where the heap is empty
-  pub none_active : len a ≤ 0 → (i : ℕ) → i < 16 → f i ≡ false
-  none_active h i l =
-      by_eq (mark a i) 2
-      (λ on. let z : len a ≡ 0 = omega arith in absurd (omega (arith, on_many l on, ap (λ n. many (places a) n (rank i)) z, count_none (places a).at (rank i))))
-      (λ off. s.marks i l ∙ ne_eqb (mark a i) 2 off)
-
--- a top that ended is dropped, whatever the set
-pub dropped : {a b : Active} → Stale a → Sank (set (set a (16 + get_or a 0 0) 0) 32 (len a - 1)) b (len a - 1) 0 (get_or a (len a - 1) 0) → Dropped a b
-dropped {a} {b} p r =
-    let x = set a (16 + get_or a 0 0) 0 in
-    let w : length x ≡ 34 = length-set a (16 + get_or a 0 0) 0 ∙ p.keeps.1.whole in
-    let q : len b ≡ len a - 1 = r.beside.same 32 (omega arith) ∙ get_or-set_same x 32 (len a - 1) 0 (omega arith) in
-    record { less = omega (arith, p.some); keeps = λ f s. leaves s p.some p.ended r }
+  pub none_active : a.len ≤ 0 → (i : ℕ) → i < 16 → members (on a.marks) i ≡ false
+  none_active h i l = go (active a.marks i) refl
+    where
+      go : (t : Bool) → active a.marks i ≡ t → members (on a.marks) i ≡ false
+      go false e = seen a.marks i ∙ e
+      go true e = let z : a.len ≡ 0 = omega arith in absurd (omega (arith, on_many l e, ap (λ n. count (rank i) (ranks a.heap) n) z, count_none (ranks a.heap) (rank i)))

@@ -1,4 +1,4 @@
--- `Sets` and `Stands` are for callers; `Stands` says one thing, which is proved anew where the set is kept otherwise.
+-- `Sets` and `Stands` are for callers; they know nothing of how a set is kept.
 pub mod Sets
 pub mod Stands
 mod Places

@@ -3,11 +3,13 @@
 use Prim.Native.Nat.{ℕ, zero, suc, ◌+◌, ◌<◌, ◌≤◌}
 use mathlib.Core.Path.{◌≡◌, refl, sym, ap, ◌∙◌}
 use mathlib.Core.Logic.{⊎_elim}
-use mathlib.Core.Bool.{Bool, true, false, true≢false}
-use mathlib.Core.Option.{Option, none, some}
+use mathlib.Core.Bool.{Bool, true, false, cond, true≢false}
+use Rattle.std.specs.declared.option.Option.{Option}
+use Rattle.std.specs.declared.option.Option.TheVariants.{None, Some}
 use mathlib.Core.List.{List, [], ◌∷◌}
 use native.Mathlib.Omega.{arith}
 use native.Mathlib.Decide.{ℕ_discrete}
+use lib.Dec.{eqb}
 use lib.ListN.{length, get_or, set, get_or-eq_default}
 use lib.Seq.{get_or-set_same, get_or-set_other}
 use borrow.Author.Tests.{eq-eqb, ne_eqb}
@@ -21,6 +23,9 @@ module _ (f : Set) (list : ℕ) (b : Bool) where
 
   pub but_other : (i : ℕ) → (i ≡ list → ⊥) → but f list b i ≡ f i
   but_other i ne = rw (ne_eqb i list ne)
+
+pub but_same : {f g : Set} → Alike f g → (list : ℕ) (b : Bool) → Alike (but f list b) (but g list b)
+but_same h list b i l = ap (cond (eqb i list) b) (h i l)
 
 -- the number is that of the lists in the set
 among_same : (f g : Set) (n : ℕ) → ((i : ℕ) → i < n → f i ≡ g i) → among n f ≡ among n g
@@ -89,30 +94,30 @@ module _ {A : Type 0} where
   among_present : (n : ℕ) (os : List (Option A)) → length os ≤ n → among n (has os) ≡ length (present os)
   among_present n [] h = among_none n
   among_present zero (o ∷ os) h = absurd (omega arith)
-  among_present (suc n) (none ∷ os) h = omega (arith, among_front n (has (none ∷ os)), among_present n os (omega arith))
-  among_present (suc n) (some v ∷ os) h = omega (arith, among_front n (has (some v ∷ os)), among_present n os (omega arith))
+  among_present (suc n) (None ∷ os) h = omega (arith, among_front n (has (None ∷ os)), among_present n os (omega arith))
+  among_present (suc n) (Some v ∷ os) h = omega (arith, among_front n (has (Some v ∷ os)), among_present n os (omega arith))
 
   pub number_present : (os : List (Option A)) → length os ≤ 16 → number (has os) ≡ length (present os)
   number_present os h = among_present 16 os h
 
   -- one of them comes to have something or nothing
   pub has_set : (os : List (Option A)) (list : ℕ) (o : Option A) → list < length os → Alike (but (has os) list (there o)) (has (set os list o))
-  has_set = told_set there none
+  has_set = told_set there None
 
-  absent : (o : Option A) → there o ≡ false → o ≡ none
-  absent none e = refl
-  absent (some v) e = absurd (true≢false e)
+  absent : (o : Option A) → there o ≡ false → o ≡ None
+  absent None e = refl
+  absent (Some v) e = absurd (true≢false e)
 
   module _ (os : List (Option A)) (h : length os ≤ 16) where
-    absent_at : (i : ℕ) → (i < 16 → has os i ≡ false) → get_or os i none ≡ none
-    absent_at i f = ⊎_elim (λ l. get_or-eq_default os none (omega arith)) (λ l. absent (get_or os i none) (f l)) (le_or_lt 16 i)
+    absent_at : (i : ℕ) → (i < 16 → has os i ≡ false) → get_or os i None ≡ None
+    absent_at i f = ⊎_elim (λ l. get_or-eq_default os None (omega arith)) (λ l. absent (get_or os i None) (f l)) (le_or_lt 16 i)
 
     -- where none is active, none has anything
-    pub has_none : ((i : ℕ) → i < 16 → has os i ≡ false) → (i : ℕ) → get_or os i none ≡ none
+    pub has_none : ((i : ℕ) → i < 16 → has os i ≡ false) → (i : ℕ) → get_or os i None ≡ None
     has_none f i = absent_at i (f i)
 
     -- above the highest that is active, none has anything
-    pub has_last : (list : ℕ) → HighestIn (has os) list → (i : ℕ) → list < i → get_or os i none ≡ none
+    pub has_last : (list : ℕ) → HighestIn (has os) list → (i : ℕ) → list < i → get_or os i None ≡ None
     has_last list t i l = absent_at i (λ k. go k (has os i) refl)
       where
         go : i < 16 → (b : Bool) → has os i ≡ b → b ≡ false

@@ -4,13 +4,16 @@
 #![tactic(auto)]
 
 ghost use Rattle.std.specs.Prelude.{◌<◌, ◌≡◌, false, length, get_or};
-ghost use Rattle.active_lists.specs.Active.{Set, Some};
-ghost use Rattle.active_lists.specs.Kept.{stands, stands_before, stands_after};
+ghost use Rattle.active_lists.specs.Active.{Stands};
 
-use active_lists::{Active, HighestActive};
+use active_lists::Active;
+use std::io;
 
-fn say(line: &[u8; 33]) {
-    io::write_all(1, line);
+fn say(rt: &impl Print, line: &[char; 32]) -> io::Result<()> {
+    for letter in line {
+        print!(rt; "{letter}")?;
+    }
+    println!(rt; "")
 }
 
 fn list_of(letter: u8) -> usize
@@ -22,72 +25,61 @@ fn list_of(letter: u8) -> usize
     }
 }
 
-fn letter_of(list: usize) -> u8 {
-    if list < 16 {
-        return b'a' + list as u8;
+fn letter_of(list: usize) -> char {
+    match list {
+        0..=15 => (b'a' + list as u8) as char,
+        _ => '?',
     }
-    b'?'
 }
 
-fn digit(n: usize) -> u8 {
-    if n < 10 {
-        return b'0' + n as u8;
-    }
-    if n < 17 {
-        return b'A' + (n - 10) as u8;
-    }
-    b'?'
+// A number's digit in base 17, which has none for 17 and more.
+fn digit(n: usize) -> char {
+    char::from_digit(n.min(17) as u32, 17).map_or('?', |digit| digit.to_ascii_uppercase())
 }
 
 // Turns a list on, or off if it is on.
 fn turn(active: &mut Active, on: &mut [bool; 16], list: usize)
-    requires { (list < 16) × (length on.old ≡ 16) × stands active (λ i. get_or on.old i false) }
-    ensures { (length on.new ≡ 16) × stands_after active (λ i. get_or on.new i false) }
+    requires { (list < 16) × Stands active.old (λ i. get_or on.old i false) }
+    ensures { Stands active.new (λ i. get_or on.new i false) }
 {
     if on[list] {
-        active_lists::deactivate(active, list);
-        on[list] = false;
-        return;
+        active.deactivate(list);
+    } else {
+        active.activate(list);
     }
-    active_lists::activate(active, list);
-    on[list] = true;
+    on[list] = !on[list];
 }
 
 // The letter of the highest active list, or a point where none is.
-fn top(active: &mut Active) -> u8
-    requires { Some (stands active) }
-    ensures { (f : Set) → stands_before active f → stands_after active f }
+fn top(active: &mut Active) -> char
+    ensures { active.new ≡ active.old }
 {
-    match active_lists::highest(active) {
-        HighestActive::List(list) => letter_of(list),
-        HighestActive::Nothing => b'.',
-    }
+    active.highest().map_or('.', letter_of)
 }
 
-fn play(script: &[u8; 32]) {
-    let mut active = active_lists::idle();
-    let mut on: [bool; 16] = [false; 16];
-    let mut tops: [u8; 33] = [b'\n'; 33];
-    let mut numbers: [u8; 33] = [b'\n'; 33];
-    let mut odds: [u8; 33] = [b'\n'; 33];
-    let mut i: usize = 0;
-    while i < 32 {
-        turn(&mut active, &mut on, list_of(script[i]));
-        numbers[i] = digit(active_lists::how_many(&active));
-        odds[i] = digit(active_lists::odd(&active) as usize);
+fn play(rt: &impl Print, script: &str) -> io::Result<()>
+    requires { length script.now ≡ 32 }
+{
+    let mut active = Active::idle();
+    let mut on = [false; 16];
+    let mut tops = ['.'; 32];
+    let mut numbers = ['.'; 32];
+    let mut odds = ['.'; 32];
+    for (i, letter) in script.bytes().enumerate() {
+        turn(&mut active, &mut on, list_of(letter));
+        numbers[i] = digit(active.how_many());
+        odds[i] = digit(active.odd() as usize);
         tops[i] = top(&mut active);
-        i += 1;
     }
-    io::write_all(1, script);
-    io::write_all(1, b"\n");
-    say(&tops);
-    say(&numbers);
-    say(&odds);
+    println!(rt; "{script}")?;
+    say(rt, &tops)?;
+    say(rt, &numbers)?;
+    say(rt, &odds)
 }
 
-fn main() {
-    play(b"abcdefghijklmnopabcdefghijklmnop");
-    play(b"ponmlkjihgfedcbaponmlkjihgfedcba");
-    play(b"afkpejodinchmbglhcmbglafkpejodin");
-    play(b"hchchchpphapahmemehbabapaphmemea");
+fn main(rt: HostRuntime) -> io::Result<()> {
+    play(&rt, "abcdefghijklmnopabcdefghijklmnop")?;
+    play(&rt, "ponmlkjihgfedcbaponmlkjihgfedcba")?;
+    play(&rt, "afkpejodinchmbglhcmbglafkpejodin")?;
+    play(&rt, "hchchchpphapahmemehbabapaphmemea")
 }

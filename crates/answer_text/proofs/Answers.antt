@@ -2,7 +2,8 @@
 use Prim.Native.Nat.{ℕ, suc}
 use mathlib.Core.Path.{◌≡◌, refl, sym, ap, subst}
 use mathlib.Core.Logic.{◌↔◌}
-use mathlib.Core.Option.{Option, none, some}
+use Rattle.std.specs.declared.option.Option.{Option}
+use Rattle.std.specs.declared.option.Option.TheVariants.{None, Some}
 use mathlib.Core.List.{List, [], ◌∷◌, map, head-eq_of_cons-eq, tail-eq_of_cons-eq}
 use native.Mathlib.Omega.{arith}
 use lib.IntN.{ℤ, pos, negsuc}
@@ -43,8 +44,8 @@ dark_signed (pos n) = dark_decimal n
 dark_signed (negsuc n) = (omega arith, dark_decimal (suc n))
 
 dark_side : (o : Option ℤ) → Dark (side o)
-dark_side none = (omega arith, tt)
-dark_side (some v) = dark_signed v
+dark_side None = (omega arith, tt)
+dark_side (Some v) = dark_signed v
 
 -- no number is a bare `-`
 bare : (a : ℤ) → signed a ≡ 45 ∷ [] → ⊥
@@ -53,10 +54,10 @@ bare (pos n) e = omega (arith, (subst Digits e (decimal_digits n)).0)
 bare (negsuc n) e = omega (arith, decimal_some (suc n), ap length (tail-eq_of_cons-eq e))
 
 side_tells : (o p : Option ℤ) → side o ≡ side p → o ≡ p
-side_tells none none e = refl
-side_tells none (some v) e = absurd (bare v (sym e))
-side_tells (some u) none e = absurd (bare u e)
-side_tells (some u) (some v) e = ap some (signed_tells u v e)
+side_tells None None e = refl
+side_tells None (Some v) e = absurd (bare v (sym e))
+side_tells (Some u) None e = absurd (bare u e)
+side_tells (Some u) (Some v) e = ap Some (signed_tells u v e)
 
 lined_row : (r : Row) → Line (row r)
 lined_row r = (dark_signed r.start, (dark_signed r.end, dark_signed r.value))
@@ -70,28 +71,20 @@ lined_header o c l n = ((omega arith, (omega arith, (omega arith, (omega arith, 
 lined_refusal : (c n : ℕ) → Line (refusal c n)
 lined_refusal c n = ((omega arith, (omega arith, (omega arith, (omega arith, (omega arith, (omega arith, (omega arith, tt))))))), (dark_decimal c, dark_decimal n))
 
-abbrev a_row : ℤ → ℤ → ℤ → Row
-a_row s e v = record { start = s; end = e; value = v }
-
-abbrev a_pair : ℤ → ℤ → Option ℤ → Option ℤ → Pair
-a_pair s e l r = record { start = s; end = e; left = l; right = r }
-
 row_tells : (r q : Row) → row r ≡ row q → r ≡ q
 row_tells r q e =
-    let s : r.start ≡ q.start = signed_tells r.start q.start (cc) in
-    let t : r.end ≡ q.end = signed_tells r.end q.end (cc) in
-    let u : r.value ≡ q.value = signed_tells r.value q.value (cc) in
-    let m : a_row r.start r.end r.value ≡ a_row q.start q.end q.value = cc in
-    m
+    let s = signed_tells r.start q.start (cc) in
+    let t = signed_tells r.end q.end (cc) in
+    let u = signed_tells r.value q.value (cc) in
+    λ i. record { start = s i; end = t i; value = u i }
 
 pair_tells : (r q : Pair) → pair r ≡ pair q → r ≡ q
 pair_tells r q e =
-    let s : r.start ≡ q.start = signed_tells r.start q.start (cc) in
-    let t : r.end ≡ q.end = signed_tells r.end q.end (cc) in
-    let u : r.left ≡ q.left = side_tells r.left q.left (cc) in
-    let v : r.right ≡ q.right = side_tells r.right q.right (cc) in
-    let m : a_pair r.start r.end r.left r.right ≡ a_pair q.start q.end q.left q.right = cc in
-    m
+    let s = signed_tells r.start q.start (cc) in
+    let t = signed_tells r.end q.end (cc) in
+    let u = side_tells r.left q.left (cc) in
+    let v = side_tells r.right q.right (cc) in
+    λ i. record { start = s i; end = t i; left = u i; right = v i }
 
 -- two texts of rows are equal exactly when the rows are
 pub rows_tell : (rs qs : List Row) → (text (map row rs) ≡ text (map row qs)) ↔ (rs ≡ qs)
@@ -113,27 +106,27 @@ answer_tells a b e = text_tells (lines a) (lines b) (lined a) (lined b) e
 pub merged_tells : (o c l p d m : ℕ) (rs qs : List Row) → answer (merged o c l rs) ≡ answer (merged p d m qs) → merged o c l rs ≡ merged p d m qs
 merged_tells o c l p d m rs qs e =
     let h = answer_tells (merged o c l rs) (merged p d m qs) e in
-    let x : o ≡ p = decimal_tells o p (cc) in
-    let y : c ≡ d = decimal_tells c d (cc) in
-    let z : l ≡ m = decimal_tells l m (cc) in
-    let w : rs ≡ qs = map_tells row lined_row row_tells rs qs (cc) in
-    cc
+    let x = decimal_tells o p (cc) in
+    let y = decimal_tells c d (cc) in
+    let z = decimal_tells l m (cc) in
+    let w = map_tells row lined_row row_tells rs qs (cc) in
+    λ i. merged (x i) (y i) (z i) (w i)
 
 pub paired_tells : (o c l p d m : ℕ) (rs qs : List Pair) → answer (paired o c l rs) ≡ answer (paired p d m qs) → paired o c l rs ≡ paired p d m qs
 paired_tells o c l p d m rs qs e =
     let h = answer_tells (paired o c l rs) (paired p d m qs) e in
-    let x : o ≡ p = decimal_tells o p (cc) in
-    let y : c ≡ d = decimal_tells c d (cc) in
-    let z : l ≡ m = decimal_tells l m (cc) in
-    let w : rs ≡ qs = map_tells pair lined_pair pair_tells rs qs (cc) in
-    cc
+    let x = decimal_tells o p (cc) in
+    let y = decimal_tells c d (cc) in
+    let z = decimal_tells l m (cc) in
+    let w = map_tells pair lined_pair pair_tells rs qs (cc) in
+    λ i. paired (x i) (y i) (z i) (w i)
 
 pub refused_tells : (c n d m : ℕ) → answer (refused c n) ≡ answer (refused d m) → refused c n ≡ refused d m
 refused_tells c n d m e =
     let h = answer_tells (refused c n) (refused d m) e in
-    let x : c ≡ d = decimal_tells c d (cc) in
-    let y : n ≡ m = decimal_tells n m (cc) in
-    cc
+    let x = decimal_tells c d (cc) in
+    let y = decimal_tells n m (cc) in
+    λ i. refused (x i) (y i)
 
 pub merged_not_refused : (o c l d m : ℕ) (rs : List Row) → answer (merged o c l rs) ≡ answer (refused d m) → ⊥
 merged_not_refused o c l d m rs e = omega (arith, head-eq_of_cons-eq e)

@@ -28,9 +28,7 @@ field_tells [] (d ∷ g) a b x y p q i j e = absurd (omega (arith, head-eq_of_co
 field_tells (c ∷ f) [] a b x y p q i j e = absurd (omega (arith, head-eq_of_cons-eq e))
 field_tells (c ∷ f) (d ∷ g) a b x y p q i j e =
     let r = field_tells f g a b x y p.1 q.1 i j (tail-eq_of_cons-eq e) in
-    let h : c ≡ d = head-eq_of_cons-eq e in
-    let t : f ≡ g = r.0 in
-    (cc, r.1, r.2)
+    (λ k. head-eq_of_cons-eq e k ∷ r.0 k, r.1, r.2)
 
 -- a line and what comes after it: the first field, its separator, the rest
 last_field : (f x : List ℕ) → line (f ∷ []) ++ x ≡ f ++ (10 ∷ x)
@@ -53,9 +51,7 @@ line_tells (f ∷ h ∷ fs) (g ∷ []) x y p q e =
 line_tells (f ∷ h ∷ fs) (g ∷ i ∷ gs) x y p q e =
     let r = field_tells f g 32 32 (line (h ∷ fs) ++ x) (line (i ∷ gs) ++ y) p.0 q.0 (omega arith) (omega arith) (sym (next_field f h fs x) ∙ e ∙ next_field g i gs y) in
     let s = line_tells (h ∷ fs) (i ∷ gs) x y p.1 q.1 r.2 in
-    let t : f ≡ g = r.0 in
-    let u : h ∷ fs ≡ i ∷ gs = s.0 in
-    (cc, s.1)
+    (λ k. r.0 k ∷ s.0 k, s.1)
 
 line_some : (fs : List (List ℕ)) (x : List ℕ) → [] ≡ line fs ++ x → ⊥
 line_some fs x e = omega (arith, simp length-append at (ap length e))
@@ -66,9 +62,7 @@ text_tells [] (m ∷ ms) p q e = absurd (line_some m (text ms) e)
 text_tells (l ∷ ls) [] p q e = absurd (line_some l (text ls) (sym e))
 text_tells (l ∷ ls) (m ∷ ms) p q e =
     let r = line_tells l m (text ls) (text ms) p.0 q.0 e in
-    let t : l ≡ m = r.0 in
-    let u : ls ≡ ms = text_tells ls ms p.1 q.1 r.1 in
-    cc
+    λ i. r.0 i ∷ text_tells ls ms p.1 q.1 r.1 i
 
 -- lines made of rows, each of which its line tells
 module _ {R : Type 0} (f : R → List (List ℕ)) (lined : (r : R) → Line (f r)) (tells : (r q : R) → f r ≡ f q → r ≡ q) where
@@ -81,9 +75,7 @@ module _ {R : Type 0} (f : R → List (List ℕ)) (lined : (r : R) → Line (f r
   map_tells [] (q ∷ qs) e = let z : ◌≡◌ {A = ℕ} 0 1 = cc in absurd (omega arith)
   map_tells (r ∷ rs) [] e = let z : ◌≡◌ {A = ℕ} 0 1 = cc in absurd (omega arith)
   map_tells (r ∷ rs) (q ∷ qs) e =
-      let t : r ≡ q = tells r q (head-eq_of_cons-eq e) in
-      let u : rs ≡ qs = map_tells rs qs (tail-eq_of_cons-eq e) in
-      cc
+      λ i. tells r q (head-eq_of_cons-eq e) i ∷ map_tells rs qs (tail-eq_of_cons-eq e) i
 
   pub table_tells : (rs qs : List R) → text (map f rs) ≡ text (map f qs) → rs ≡ qs
   table_tells rs qs e = map_tells rs qs (text_tells (map f rs) (map f qs) (lines_of rs) (lines_of qs) e)

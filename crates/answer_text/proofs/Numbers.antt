@@ -29,7 +29,7 @@ spell_ind P one more zero n h = absurd (omega arith)
 spell_ind P one more (suc k) n h = by_test n 10 (P n) (one n) (λ g. more n g (spell_ind P one more k (n / 10) (omega (arith, tenth n g))))
 
 -- what holds of the numbers below ten, and of a number where it holds of its tenth, holds of every number
-decimal_ind : (P : ℕ → Type 0) → ((n : ℕ) → n < 10 → P n) → ((n : ℕ) → 10 ≤ n → P (n / 10) → P n) → (n : ℕ) → P n
+pub decimal_ind : (P : ℕ → Type 0) → ((n : ℕ) → n < 10 → P n) → ((n : ℕ) → 10 ≤ n → P (n / 10) → P n) → (n : ℕ) → P n
 decimal_ind P one more n = spell_ind P one more (suc n) n (omega arith)
 
 places_one : (k n : ℕ) → n < 10 → places (suc k) n ≡ 1

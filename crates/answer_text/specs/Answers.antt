@@ -1,6 +1,7 @@
 -- The text of an answer: a header and a row for each piece, or a refusal's one line. Assumes nothing.
 use Rattle.std.specs.Prelude.{ℕ, zero, suc, ◌/◌, ◌%◌, Bool, true, false, List, [], ◌∷◌, ◌++◌, map, eqb, ℤ, pos, length, get_or}
-use Rattle.std.proofs.Math.Option.{Option, none, some}
+use Rattle.std.specs.declared.option.Option.{Option}
+use Rattle.std.specs.declared.option.Option.TheVariants.{None, Some}
 use Rattle.rules.specs.Merged.{Merged}
 use Rattle.rules.specs.Paired.{Paired}
 use Rattle.answer_text.specs.Numbers.{decimal, signed}
@@ -29,8 +30,8 @@ row r = signed r.start ∷ signed r.end ∷ signed r.value ∷ []
 
 -- `-` for a missing side
 abbrev pub side : Option ℤ → List ℕ
-side none = 45 ∷ []
-side (some v) = signed v
+side None = 45 ∷ []
+side (Some v) = signed v
 
 -- start, end, left, right
 abbrev pub pair : Pair → List (List ℕ)
@@ -66,8 +67,8 @@ rows c n = firsts (row_at c) n
 
 -- a side from its presence and its value
 abbrev pub present : Bool → ℤ → Option ℤ
-present true v = some v
-present false v = none
+present true v = Some v
+present false v = None
 
 -- bit 0 of a presence is the left, bit 1 the right
 abbrev pub left_there : ℕ → Bool

@@ -1,69 +1,68 @@
--- Laws of combiners that take one value more. Assumes nothing.
-use Prim.Native.Nat.{ℕ, zero, suc, ◌+◌, ◌-◌, ◌*◌, ◌^◌, ◌≤◌, ◌<◌}
-use mathlib.Core.Path.{◌≡◌, refl, ap, ◌∙◌}
-use mathlib.Core.Bool.{Bool, true, false}
-use mathlib.Core.Option.{none, some}
-use mathlib.Core.List.{List, [], ◌∷◌}
+-- What a place more adds to the values present, their sum and their number. Assumes nothing.
+use Prim.Native.Nat.{ℕ, zero, suc, ◌+◌, ◌^◌, ◌≤◌, ◌<◌}
+use mathlib.Core.Path.{◌≡◌, sym, ap, ◌∙◌}
+use mathlib.Core.Bool.{true, false}
+use mathlib.Core.List.{List, [], ◌∷◌, ◌++◌, append-nil}
 use native.Mathlib.Omega.{arith}
-use lib.Dec.{ltb}
-use lib.IntN.{ℤ, pos, negsuc, sub_ℕ, ◌+ℤ◌, +ℤ_comm}
-use lib.ListN.{length, get_or-eq_default}
-use lib.Signed.{mag, le_z}
-use mir.Syntax.{w32, w64}
-use mir.Val.{SFits, of_z, to_z}
-use mir.ValLaws.{to_z-of_z, to_z_pos}
-use Rattle.integer.proofs.Laws.{wide}
+use native.Mathlib.Nat.{add-zero}
+use lib.IntN.{ℤ, pos, negsuc, ◌+ℤ◌}
+use lib.ListN.{length, get_or, length-append}
+use lib.Signed.{mag, ◌≤ℤ◌}
+use mir.Syntax.{w64}
+use mir.Val.{of_z, to_z}
+use Rattle.std.specs.declared.option.Option.TheVariants.{Some}
+use Rattle.std.proofs.lemmas.Int.{ints, to_z-of_z}
+use Rattle.rules.specs.Piece as pieces
+use Rattle.rules.proofs.Present.{present_append}
 use Rattle.many_way_rules.specs.Combiners as rules
-use Rattle.slots.specs.Slots.{Slots, values_of}
-use Rattle.combine.specs.Figures.{Summed, Numbered}
+use Rattle.many_way_rules.specs.Combiners.{sum_of}
+use Rattle.slots.specs.Slots.{Slots, slot, slots_from, active, values_of}
+use Rattle.combine.specs.Figures.{Summed}
 
--- a test of two values that went through locals
-pub order_back : (a b : ℤ) {t : Bool} → SFits w32 a → SFits w32 b → le_z (to_z w32 (of_z w32 a)) (to_z w32 (of_z w32 b)) ≡ t → le_z a b ≡ t
-order_back a b f g e = rw (to_z-of_z w32 a f, to_z-of_z w32 b g) at e
+slots_last : (s : Slots) (j n : ℕ) → slots_from s j (suc n) ≡ slots_from s j n ++ slot s (j + n) ∷ []
+slots_last s j zero = ap (λ k. slot s k ∷ []) (sym (add-zero j))
+slots_last s j (suc n) = ap (λ os. slot s j ∷ os) (slots_last s (suc j) n ∙ ap (λ k. slots_from s (suc j) n ++ slot s k ∷ []) (omega arith))
 
-mag_difference : (a b : ℕ) → mag (sub_ℕ a b) ≤ a + b
-mag_difference a b = go (ltb a b) refl where
-  go : (t : Bool) → ltb a b ≡ t → mag (sub_ℕ a b) ≤ a + b
-  go true e = rw e (omega arith)
-  go false e = rw e (omega arith)
+module _ (s : Slots) (i : ℕ) where
+  pub values_last : values_of (i + 1) s ≡ values_of i s ++ pieces.present (slot s i ∷ [])
+  values_last =
+      let z : 0 + i ≡ i = omega arith in
+      let e : i + 1 ≡ suc i = omega arith in
+      rw e (ap pieces.present (rw z at (slots_last s 0 i)) ∙ present_append (active i s) (slot s i ∷ []))
+
+  values_there : get_or s.present i false ≡ true → values_of (i + 1) s ≡ values_of i s ++ get_or s.current i (pos 0) ∷ []
+  values_there t = rw t at values_last
+
+  values_missing : get_or s.present i false ≡ false → values_of (i + 1) s ≡ values_of i s
+  values_missing t = (rw t at values_last) ∙ append-nil (values_of i s)
+
+  pub number_there : get_or s.present i false ≡ true → length (values_of (i + 1) s) ≡ length (values_of i s) + 1
+  number_there t = ap length (values_there t) ∙ length-append (values_of i s) (get_or s.current i (pos 0) ∷ [])
+
+  pub number_missing : get_or s.present i false ≡ false → length (values_of (i + 1) s) ≡ length (values_of i s)
+  number_missing t = ap length (values_missing t)
+
+sum_last : (l : List ℤ) (v : ℤ) → sum_of (l ++ v ∷ []) ≡ sum_of l +ℤ v
+sum_last [] v = omega (arith, ints)
+sum_last (u ∷ us) v = omega (arith, ints, sum_last us v)
+
+mag_within : (z : ℤ) (n : ℕ) → negsuc n ≤ℤ z → z ≤ℤ pos n → mag z ≤ n
+mag_within (pos a) n g h = omega (arith, ints)
+mag_within (negsuc a) n g h = omega (arith, ints)
 
 mag_sum : (a b : ℤ) → mag (a +ℤ b) ≤ mag a + mag b + 1
-mag_sum (pos a) (pos b) = omega arith
-mag_sum (pos a) (negsuc b) = omega (arith, mag_difference a (suc b))
-mag_sum (negsuc a) (pos b) = omega (arith, mag_difference b (suc a))
-mag_sum (negsuc a) (negsuc b) = omega arith
+mag_sum a b = mag_within (a +ℤ b) (mag a + mag b + 1) (omega (arith, ints)) (omega (arith, ints))
 
--- t is the sum of l, and with the prices of i places more it is within the bound of n places
-pub record Total (n i : ℕ) (t : ℤ) (l : List ℤ) : Type 0 where
-  pub few : n ≤ 16
-  pub room : mag t + i * 2 ^ 31 ≤ n * 2 ^ 31
-  pub sum : t ≡ rules.sum_of l
+module _ {i : ℕ} {s : Slots} {t : ℤ} (k : Summed i s t) where
+  pub summed_there : get_or s.present i false ≡ true → mag (get_or s.current i (pos 0)) < 2 ^ 31 → {u : ℤ} → u ≡ t +ℤ get_or s.current i (pos 0) → Summed (i + 1) s u
+  summed_there p f {u} e = record {
+    is = e ∙ ap (λ z. z +ℤ get_or s.current i (pos 0)) k.is ∙ sym (ap sum_of (values_there s i p) ∙ sum_last (values_of i s) (get_or s.current i (pos 0)));
+    bound = omega (arith, k.bound, ap mag e, mag_sum t (get_or s.current i (pos 0)));
+  }
 
-pub total_first : {n : ℕ} → n ≤ 16 → Total n n (pos 0) []
-total_first h = record { few = h; room = omega arith; sum = refl }
+  pub summed_missing : get_or s.present i false ≡ false → Summed (i + 1) s t
+  summed_missing p = record { is = k.is ∙ sym (ap sum_of (values_missing s i p)); bound = omega (arith, k.bound) }
 
-pub total_skip : {n i : ℕ} {t : ℤ} {l : List ℤ} → Total n i t l → Total n (i - 1) t l
-total_skip s = record { few = s.few; room = omega arith; sum = s.sum }
-
-pub summed : {n i : ℕ} {t : ℤ} {s : Slots} → Total n i t (values_of n s) → Summed n s t
-summed s = record { is = s.sum; bound = omega arith }
-
-module _ {n i : ℕ} {t : ℤ} {l : List ℤ} (s : Total n i t l) (h : 0 < i) (v : ℤ) (f : mag v < 2 ^ 31) where
-  pub total_fits : SFits w64 (t +ℤ to_z w64 (of_z w64 (to_z w32 (of_z w32 v))))
-  total_fits = rw (wide v f).1 (record { sfits = omega (arith, mag_sum t v) })
-
-  pub total_more : Total n (i - 1) (to_z w64 (of_z w64 (t +ℤ to_z w64 (of_z w64 (to_z w32 (of_z w32 v)))))) (v ∷ l)
-  total_more =
-      rw (to_z-of_z w64 _ total_fits, (wide v f).1)
-      (record { few = s.few; room = omega (arith, mag_sum t v); sum = +ℤ_comm t v ∙ ap (λ z. v +ℤ z) s.sum })
-
-pub numbered : {places : ℕ} {s : Slots} (n : ℕ) → n ≤ places → places ≤ 16 → n ≡ length (values_of places s) → Numbered places s (to_z w64 n)
-numbered n h few e = rw (to_z_pos w64 n (omega arith)) (record { is = ap pos e; bound = h })
-
--- the answer of a known combiner over the values of n places, and that there is no other
-pub known : (k : ℕ) (f : List ℤ → ℤ) → ((l : List ℤ) → rules.combine k l ≡ some (f l)) → (s : Slots) {c m n : ℕ} {r : ℤ} → c ≡ k → n ≡ m → r ≡ f (values_of n s) → mag r < 2 ^ 63 → some (to_z w64 (of_z w64 r)) ≡ rules.combine c (values_of m s)
-known k f is s {c} {m} {n} {r} ec en er ok = rw (to_z-of_z w64 r (record { sfits = ok }), er, en, ec, is)
-
-pub unknown : (c : ℕ) (l : List ℤ) → (0 < c → rules.last_combiner < c) → none ≡ rules.combine c l
-unknown zero l h = refl
-unknown (suc c) l h = let q : 6 ≤ suc c = h (omega arith) in rw get_or-eq_default
+-- the answer of a combiner over the values of n places, which went through a local
+pub known : (k : ℕ) (f : List ℤ → ℤ) → ((l : List ℤ) → rules.combine k l ≡ Some (f l)) → (s : Slots) {c m n : ℕ} {r : ℤ} → c ≡ k → n ≡ m → r ≡ f (values_of n s) → mag r < 2 ^ 63 → Some (to_z w64 (of_z w64 r)) ≡ rules.combine c (values_of m s)
+known k f is s ec en er fits = rw (to_z-of_z w64 _ (record { sfits = fits }), er, en, ec, is)

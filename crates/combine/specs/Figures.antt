@@ -1,15 +1,10 @@
--- A combiner's answer, and figures over the values present, with their bounds. Assumes nothing.
-use Rattle.std.specs.Prelude.{ℕ, ◌*◌, ◌≤◌, ◌^◌, ◌≡◌, Bool, cond, List, ℤ, pos, negsuc, length}
-use Rattle.std.proofs.Math.Option.{Option, none, some}
+-- Figures over the values present, with their bounds. Assumes nothing.
+use Rattle.std.specs.Prelude.{ℕ, ◌*◌, ◌≤◌, ◌^◌, ◌≡◌, Bool, cond, List, ℤ, pos, negsuc, ◌-ℤ◌, length}
+use Rattle.std.specs.declared.option.Option.{Option}
+use Rattle.std.specs.declared.option.Option.TheVariants.{None, Some}
 use Rattle.std.specs.Int.Signed.{mag}
 use Rattle.many_way_rules.specs.Combiners.{sum_of, largest, smallest}
 use Rattle.slots.specs.Slots.{Slots, values_of}
-use Rattle.combine.specs.declared.Combined.{Combined}
-use Rattle.combine.specs.declared.Combined.TheVariants.{Value, Unknown}
-
-abbrev pub answer : Combined → Option ℤ
-answer (Value v) = some v
-answer Unknown = none
 
 -- r is the sum of the values present in so many places, each of them an i32
 pub record Summed (places : ℕ) (s : Slots) (r : ℤ) : Type 0 where
@@ -25,18 +20,16 @@ pub record Numbered (places : ℕ) (s : Slots) (r : ℤ) : Type 0 where
 abbrev pub lowest : ℤ
 lowest = negsuc 2147483647
 
--- -1 - z
 abbrev pub mirror : ℤ → ℤ
-mirror (pos n) = negsuc n
-mirror (negsuc n) = pos n
+mirror z = negsuc 0 -ℤ z
 
 abbrev pub mirrored : Bool → ℤ → ℤ
 mirrored so v = cond so (mirror v) v
 
 -- what a place weighs in the search for the largest value, or for the least
 abbrev pub weight : Bool → Option ℤ → ℤ
-weight least none = lowest
-weight least (some v) = mirrored least v
+weight least None = lowest
+weight least (Some v) = mirrored least v
 
 abbrev pub utmost : Bool → List ℤ → ℤ
 utmost least vs = cond least (smallest vs) (largest vs)

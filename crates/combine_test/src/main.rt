@@ -2,7 +2,8 @@
 
 #![tactic(auto)]
 
-use combine::{Combined, combine};
+use combine::combine;
+use std::io;
 
 // What each combiner is to answer.
 #[derive(Clone, Copy)]
@@ -14,14 +15,15 @@ struct Want {
     mean: i64,
 }
 
-fn main() {
-    no_values();
-    few_values();
-    sixteen_values();
-    unknown_numbers();
+fn main(rt: HostRuntime) -> io::Result<()> {
+    no_values(&rt)?;
+    few_values(&rt)?;
+    sixteen_values(&rt)?;
+    far_apart(&rt)?;
+    unknown_numbers(&rt)
 }
 
-fn no_values() {
+fn no_values(rt: &impl Print) -> io::Result<()> {
     let nothing = Want {
         sum: 0,
         largest: 0,
@@ -29,11 +31,11 @@ fn no_values() {
         count: 0,
         mean: 0,
     };
-    tell(b"no lists", 0, &[7; 16], &[true; 16], nothing);
-    tell(b"no list present", 16, &[7; 16], &[false; 16], nothing);
+    tell(rt, "no lists", 0, &[7; 16], &[true; 16], nothing)?;
+    tell(rt, "no list present", 16, &[7; 16], &[false; 16], nothing)
 }
 
-fn few_values() {
+fn few_values(rt: &impl Print) -> io::Result<()> {
     let mut current = [9; 16];
     let mut present = [false; 16];
     current[3] = -3;
@@ -45,7 +47,7 @@ fn few_values() {
         count: 1,
         mean: -3,
     };
-    tell(b"one value among leftovers", 16, &current, &present, one);
+    tell(rt, "one value among leftovers", 16, &current, &present, one)?;
     current[5] = 0;
     present[5] = true;
     let two = Want {
@@ -55,8 +57,8 @@ fn few_values() {
         count: 2,
         mean: -1,
     };
-    tell(b"-3 and 0", 6, &current, &present, two);
-    tell(b"-3 without the list of 0", 5, &current, &present, one);
+    tell(rt, "-3 and 0", 6, &current, &present, two)?;
+    tell(rt, "-3 without the list of 0", 5, &current, &present, one)?;
     current[3] = 3;
     let up = Want {
         sum: 3,
@@ -65,10 +67,11 @@ fn few_values() {
         count: 2,
         mean: 1,
     };
-    tell(b"3 and 0", 6, &current, &present, up);
+    tell(rt, "3 and 0", 6, &current, &present, up)
 }
 
-fn sixteen_values() {
+fn sixteen_values(rt: &impl Print) -> io::Result<()> {
+    let (low, high, all) = ([i32::MIN; 16], [i32::MAX; 16], [true; 16]);
     let least = Want {
         sum: -34359738368,
         largest: -2147483648,
@@ -76,20 +79,8 @@ fn sixteen_values() {
         count: 16,
         mean: -2147483648,
     };
-    tell(
-        b"sixteen of the least",
-        16,
-        &[i32::MIN; 16],
-        &[true; 16],
-        least,
-    );
-    tell(
-        b"seventeen lists are sixteen",
-        17,
-        &[i32::MIN; 16],
-        &[true; 16],
-        least,
-    );
+    tell(rt, "sixteen of the least", 16, &low, &all, least)?;
+    tell(rt, "seventeen lists are sixteen", 17, &low, &all, least)?;
     let greatest = Want {
         sum: 34359738352,
         largest: 2147483647,
@@ -97,13 +88,10 @@ fn sixteen_values() {
         count: 16,
         mean: 2147483647,
     };
-    tell(
-        b"sixteen of the greatest",
-        16,
-        &[i32::MAX; 16],
-        &[true; 16],
-        greatest,
-    );
+    tell(rt, "sixteen of the greatest", 16, &high, &all, greatest)
+}
+
+fn far_apart(rt: &impl Print) -> io::Result<()> {
     let mut current = [1; 16];
     current[0] = i32::MIN;
     current[15] = i32::MAX;
@@ -115,52 +103,60 @@ fn sixteen_values() {
         mean: 0,
     };
     tell(
-        b"the first and the last of sixteen",
+        rt,
+        "the first and the last of sixteen",
         16,
         &current,
         &[true; 16],
         ends,
-    );
+    )
 }
 
-fn unknown_numbers() {
-    io::write_all(1, b"unknown numbers:");
-    name(b" 0", is_unknown(0));
-    name(b" 6", is_unknown(6));
-    name(b" 255", is_unknown(255));
-    io::write_all(1, b"\n");
+fn unknown_numbers(rt: &impl Print) -> io::Result<()> {
+    say(
+        rt,
+        "unknown numbers",
+        &[
+            ("0", is_unknown(0)),
+            ("6", is_unknown(6)),
+            ("255", is_unknown(255)),
+        ],
+    )
 }
 
-fn tell(what: &[u8], lists: usize, current: &[i32; 16], present: &[bool; 16], want: Want) {
-    io::write_all(1, what);
-    io::write_all(1, b":");
-    name(b" sum", gives(1, lists, current, present, want.sum));
-    name(b" largest", gives(2, lists, current, present, want.largest));
-    name(
-        b" smallest",
-        gives(3, lists, current, present, want.smallest),
-    );
-    name(b" count", gives(4, lists, current, present, want.count));
-    name(b" mean", gives(5, lists, current, present, want.mean));
-    io::write_all(1, b"\n");
+fn tell(
+    rt: &impl Print,
+    what: &str,
+    lists: usize,
+    current: &[i32; 16],
+    present: &[bool; 16],
+    want: Want,
+) -> io::Result<()> {
+    let answer = |combiner: u8| combine(combiner, lists, current, present);
+    say(
+        rt,
+        what,
+        &[
+            ("sum", answer(1) == Some(want.sum)),
+            ("largest", answer(2) == Some(want.largest)),
+            ("smallest", answer(3) == Some(want.smallest)),
+            ("count", answer(4) == Some(want.count)),
+            ("mean", answer(5) == Some(want.mean)),
+        ],
+    )
 }
 
-fn name(what: &[u8], right: bool) {
-    if right {
-        io::write_all(1, what);
+// Says what a case is, and which of its names are right.
+fn say(rt: &impl Print, what: &str, names: &[(&str, bool)]) -> io::Result<()> {
+    print!(rt; "{what}:")?;
+    for (name, right) in names {
+        if *right {
+            print!(rt; " {name}")?;
+        }
     }
-}
-
-fn gives(combiner: u8, lists: usize, current: &[i32; 16], present: &[bool; 16], want: i64) -> bool {
-    match combine(combiner, lists, current, present) {
-        Combined::Value(v) => v == want,
-        Combined::Unknown => false,
-    }
+    println!(rt; "")
 }
 
 fn is_unknown(combiner: u8) -> bool {
-    match combine(combiner, 16, &[7; 16], &[true; 16]) {
-        Combined::Value(_) => false,
-        Combined::Unknown => true,
-    }
+    combine(combiner, 16, &[7; 16], &[true; 16]).is_none()
 }

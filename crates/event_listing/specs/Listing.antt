@@ -1,18 +1,19 @@
 -- What the contracts of the event listing say of columns: the events stand at their front. Assumes nothing.
 use Rattle.std.specs.Prelude.{ℕ, ◌≤◌, ◌<◌, ◌≡◌, cond, leb, ℤ, length, set}
+use Rattle.std.specs.declared.result.Result.TheVariants.{Ok, Err}
 use Rattle.rules.specs.Lists.{Width, Lent}
+use Rattle.rules.specs.Answer.{Answer}
 use Rattle.rules.specs.Refusals.{Formed}
 use Rattle.rules.specs.Sweep.{Event, point, kind, list}
 use Rattle.rules.specs.Listed.{Listed, event_value, room, lay}
-use Rattle.rules.specs.declared.Answer.{Answer}
-use Rattle.rules.specs.declared.Answer.TheVariants.{Done, NoRoom}
+use Rattle.rules.specs.declared.Refusal.TheVariants.{NoRoom}
 use Rattle.rules.specs.declared.Kind.TheVariants.{Listing}
 use Rattle.multiway_sweep.specs.Begins.{events_of}
 use Rattle.event_listing.specs.declared.Row.{Row}
 
 -- the answer of an operation that nothing refuses before the room is looked at
 abbrev pub answer_for : ℕ → ℕ → Answer
-answer_for needed room = cond (leb needed room) (Done needed) (NoRoom needed)
+answer_for needed room = cond (leb needed room) (Ok needed) (Err (NoRoom needed))
 
 -- the row of an event
 pub record RowOf (e : Event ℤ) (r : Row) : Type 0 where

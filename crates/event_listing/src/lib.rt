@@ -1,65 +1,126 @@
-// The event listing: every start and end of the lists' ranges, in the order of the sweep; here an event's row, and the answer.
+// The event listing: every start and end of the lists' ranges, in the order of the sweep, over lent columns.
 
 #![tactic(auto)]
 
-ghost use Rattle.std.specs.Prelude.{◌*◌, ◌^◌, ◌<◌, min, ◌≡◌};
-ghost use Rattle.rules.specs.Sweep.{starts, ends};
-ghost use Rattle.event_listing.specs.Listing.{RowOf, answer_for};
+ghost use Rattle.std.specs.Prelude.{◌*◌, ◌^◌, ◌<◌, ◌≡◌};
+ghost use Rattle.rules.specs.Lists.{held};
+ghost use Rattle.rules.specs.Sweep.{list};
+ghost use Rattle.rules.specs.Listed.{output, before, after};
+ghost use Rattle.rules.specs.Outcomes.{listing};
+ghost use Rattle.rules.specs.Answer.{leaves};
+ghost use Rattle.multiway_sweep.specs.Steps.{event_of};
+ghost use Rattle.event_listing.specs.Listing.{RowOf, answer_for, Writable, PutRow, Listable, Wrote};
 
-use multiway_sweep::Range;
-use rules::{Answer, shorter};
+use form::judge;
+use integer::{Integer, put_key};
+use multiway_sweep::{Event, Sweep};
+use rules::{Kind, Lists, Refusal};
 
 // An event as the columns have it, its point told by its key.
 #[derive(Clone, Copy)]
-pub struct Row {
-    pub kind: u8,
-    pub key: u64,
-    pub list: u8,
-    pub value: i32,
+struct Row {
+    kind: u8,
+    key: u64,
+    list: u8,
+    value: i32,
 }
 
-// The row of a start.
-pub fn start_row(range: Range, list: usize, value: i32) -> Row
-    requires { list < 256 }
-    ensures { RowOf (starts range.start list value) result }
+// The row of an event, its kind as the C interface numbers it: 0 a start, 1 an end, which has no value.
+fn row_of(event: Event) -> Row
+    requires { list (event_of event) < 256 }
+    ensures { RowOf (event_of event) result }
 {
-    Row {
-        kind: 0,
-        key: range.start,
-        list: list as u8,
-        value,
+    match event {
+        Event::Start(range, list, value) => Row {
+            kind: 0,
+            key: range.start,
+            list: list as u8,
+            value,
+        },
+        Event::End(key, list) => Row {
+            kind: 1,
+            key,
+            list: list as u8,
+            value: 0,
+        },
     }
-}
-
-// The row of an end.
-pub fn end_row(key: u64, list: usize) -> Row
-    requires { list < 256 }
-    ensures { RowOf (ends key list) result }
-{
-    Row {
-        kind: 1,
-        key,
-        list: list as u8,
-        value: 0,
-    }
-}
-
-// The length of the shortest of four columns.
-pub fn shortest(a: usize, b: usize, c: usize, d: usize) -> usize
-    ensures { result ≡ min a (min b (min c d)) }
-{
-    shorter(a, shorter(b, shorter(c, d)))
 }
 
 // The answer where nothing is refused before: two events for each range, if there is room for them.
-pub fn answer_for(ranges: usize, room: usize) -> Answer
+pub fn answer_for(ranges: usize, room: usize) -> Result<usize, Refusal>
     requires { ranges < 2 ^ 63 }
     ensures { result ≡ answer_for (2 * ranges) room }
 {
     let needed = 2 * ranges;
     if needed <= room {
-        Answer::Done(needed)
+        Ok(needed)
     } else {
-        Answer::NoRoom(needed)
+        Err(Refusal::NoRoom(needed))
     }
+}
+
+// Writes a row at a place of the columns, which are lent one by one: a struct of columns to be written can not be lent on.
+fn put_row<P: Integer>(
+    place: usize,
+    row: Row,
+    out_kind: &mut [u8],
+    out_point: &mut [P],
+    out_list: &mut [u8],
+    out_value: &mut [i32],
+)
+    requires { Writable P.width place row (output out_kind out_point out_list out_value) }
+    ensures { let c = before out_kind out_point out_list out_value in
+        let d = after out_kind out_point out_list out_value in
+        PutRow P.width place row c d }
+{
+    out_kind[place] = row.kind;
+    put_key(out_point, place, row.key);
+    out_list[place] = row.list;
+    out_value[place] = row.value;
+}
+
+// Writes all events at the front of the columns, which have room for them: two for each range.
+fn write_events<P: Integer>(
+    lent: Lists<P>,
+    out_kind: &mut [u8],
+    out_point: &mut [P],
+    out_list: &mut [u8],
+    out_value: &mut [i32],
+)
+    requires { Listable P.width (held lent) (output out_kind out_point out_list out_value) }
+    ensures { let c = before out_kind out_point out_list out_value in
+        let d = after out_kind out_point out_list out_value in
+        Wrote P.width (held lent.entry) c d }
+{
+    let mut sweep = Sweep::new(lent);
+    for place in 0..2 * lent.starts.len() {
+        let Some(event) = sweep.step(lent) else {
+            unreachable!()
+        };
+        let row = row_of(event);
+        put_row(place, row, out_kind, out_point, out_list, out_value);
+    }
+}
+
+// The events of the lists: kind (0 a start, 1 an end), point, list, and value (0 for an end).
+pub fn list_events<P: Integer>(
+    lent: Lists<P>,
+    out_kind: &mut [u8],
+    out_point: &mut [P],
+    out_list: &mut [u8],
+    out_value: &mut [i32],
+) -> Result<usize, Refusal>
+    ensures { let c = before out_kind out_point out_list out_value in
+        let d = after out_kind out_point out_list out_value in
+        leaves result d ≡ listing P.width (held lent.entry) c }
+{
+    judge(Kind::Listing, lent)?;
+    let room = out_kind
+        .len()
+        .min(out_point.len())
+        .min(out_list.len())
+        .min(out_value.len());
+    let events = answer_for(lent.starts.len(), room)?;
+    write_events(lent, out_kind, out_point, out_list, out_value);
+    Ok(events)
 }

@@ -1,17 +1,19 @@
 -- How lists are read into columns. Assumes nothing.
-use Rattle.std.specs.Prelude.{ℕ, ◌+◌, ◌≤◌, ◌≡◌, List, ℤ, length, drop}
+use Rattle.std.specs.Prelude.{ℕ, ◌+◌, ◌≤◌, ◌≡◌, List, ℤ, length}
+use Rattle.std.specs.declared.result.Result.{Result}
+use Rattle.std.specs.declared.result.Result.TheVariants.{Ok, Err}
 use Rattle.rules.specs.Merged.{Merged}
 use Rattle.many_way_rules.specs.Sheet.{Tariff, flat}
 use Rattle.tariff_file.specs.Reader.{stop, Reader}
-use Rattle.file_records.specs.Ends.{Got}
+use Rattle.tariff_file.specs.declared.Refusal.{Refusal}
+use Rattle.file_records.specs.Ends.{reads, Got}
 use Rattle.file_records.specs.Columns.{Laid, Took}
-use Rattle.file_reader.specs.declared.Filled.{Filled}
-use Rattle.file_reader.specs.declared.Filled.TheVariants.{Past, Stopped}
+use Rattle.file_records.specs.declared.rest.Rest.{Rest}
 
--- p from a place on: past what it reads, of which Put tells with how many ranges it has, or a refusal
-abbrev pub Fills : {A : Type 0} → Reader A → List ℕ → ℕ → (ℕ → A → Type 0) → Filled → Type 0
-Fills p file at Put (Past past n) = Got p file at (Put n) past
-Fills p file at Put (Stopped x) = p at (drop at file) ≡ stop x
+-- p read what is left: what it gives, of which Put tells with how many ranges it has, and the rest, or a refusal
+abbrev pub Fills : {A : Type 0} → Reader A → Rest → (ℕ → A → Type 0) → Result (Rest × ℕ) Refusal → Type 0
+Fills p from Put (Ok (rest, n)) = Got p from (Put n) rest
+Fills p from Put (Err x) = reads p from ≡ stop x
 
 -- a list of n ranges, which stand in the columns after those before them
 pub record Counted (prior : ℕ) (b c : Merged ℤ) (n : ℕ) (l : Tariff ℤ) : Type 0 where

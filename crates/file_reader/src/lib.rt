@@ -8,98 +8,65 @@ ghost use Rattle.tariff_file.specs.File.{read_list, read_lists};
 ghost use Rattle.file_reader.specs.Fills.{Fills, Counted, Gathered};
 ghost use Rattle.file_reader.specs.Holds.{Holds};
 
-use file_head::{HEAD_SIZE, Opened, head_at};
-use file_records::{number_at, read_ranges, record_at};
+use file_head::{Head, head_at};
+use file_records::{Rest, number_at, read_ranges};
 use rules::MAX_RANGES;
-use tariff_file::{Passed, Refusal, Task};
-
-// The most bytes of a file.
-const MAX_BYTES: usize = 45126;
+use tariff_file::{MAX_BYTES, Refusal};
 
 // The second byte of a list's mark, and its bytes.
 const LIST: u8 = 0x4C;
 
 const LIST_SIZE: usize = 4;
 
-// What a file holds: an operation's number and what it does, a combiner, and how many lists and ranges there are.
-#[derive(Clone, Copy)]
-pub struct Head {
-    pub task: Task,
-    pub operation: u8,
-    pub combiner: u8,
-    pub lists: usize,
+// What a file holds: its head, and how many ranges there are.
+#[derive(Clone, Copy, Debug, PartialEq, Eq)]
+pub struct Contents {
+    pub head: Head,
     pub ranges: usize,
 }
 
-// What reading ends with: a refusal, or a file's head, its lists being in the columns.
-#[derive(Clone, Copy)]
-pub enum Contents {
-    Refused(Refusal),
-    Held(Head),
-}
-
-// How lists end: past the last byte, with so many ranges, or with a refusal.
-#[derive(Clone, Copy)]
-pub enum Filled {
-    Past(usize, usize),
-    Stopped(Refusal),
-}
-
-// A list that comes after so many ranges, into the columns from there on.
-fn read_list(
-    file: &[u8],
-    at: usize,
+// A list that comes after so many ranges, into the columns from there on: what is left behind it, and its count.
+fn read_list<'a>(
+    from: Rest<'a>,
     prior: usize,
     starts: &mut [i64],
     ends: &mut [i64],
     values: &mut [i32],
-) -> Filled
-    requires { (at ≤ length file.now) × (prior ≤ 2048) × (2048 ≤ room (output starts ends values)) }
-    ensures { Fills (read_list prior) file.now at (Counted prior (before starts ends values) (after starts ends values)) result }
+) -> Result<(Rest<'a>, usize), Refusal>
+    requires { (prior ≤ 2048) × (2048 ≤ room (output starts ends values)) }
+    ensures { Fills (read_list prior) from.entry (Counted prior (before starts ends values) (after starts ends values)) result }
 {
-    match record_at(file, at, LIST, LIST_SIZE) {
-        Passed::Stopped(x) => Filled::Stopped(x),
-        Passed::Past(past) => {
-            let count = number_at(file, at + 2, 2) as usize;
-            if MAX_RANGES - prior < count {
-                return Filled::Stopped(Refusal::TooManyRanges(at));
-            }
-            match read_ranges(file, past, count, prior, starts, ends, values) {
-                Passed::Stopped(x) => Filled::Stopped(x),
-                Passed::Past(end) => Filled::Past(end, count),
-            }
-        }
+    let ranges = from.record_at(LIST, LIST_SIZE)?;
+    let count = number_at(from.bytes, 2, 2) as usize;
+    let left = MAX_RANGES - prior;
+    if left < count {
+        return Err(Refusal::TooManyRanges(from.at));
     }
+    let rest = read_ranges(ranges, count, prior, starts, ends, values)?;
+    Ok((rest, count))
 }
 
-// So many lists, into the columns and their counts.
-fn read_lists(
-    file: &[u8],
-    from: usize,
-    n: usize,
+// As many lists as there are counts, into the columns and their counts: what is left behind them, and how many ranges they have.
+fn read_lists<'a>(
+    from: Rest<'a>,
     starts: &mut [i64],
     ends: &mut [i64],
     values: &mut [i32],
     counts: &mut [u32],
-) -> Filled
-    requires { (from ≤ length file.now) × (n ≤ length counts.old) × (2048 ≤ room (output starts ends values)) }
-    ensures { let c = Gathered n (before starts ends values) (after starts ends values) counts.old counts.new in
-        Fills (read_lists n 0) file.now from c result }
+) -> Result<(Rest<'a>, usize), Refusal>
+    requires { 2048 ≤ room (output starts ends values) }
+    ensures { let c = Gathered (length counts.old) (before starts ends values) (after starts ends values) counts.old counts.new in
+        Fills (read_lists (length counts.old) 0) from.entry c result }
 {
-    let mut at = from;
-    let mut prior = 0;
-    let mut i = 0;
-    while i < n {
-        let found = read_list(file, at, prior, starts, ends, values);
-        let Filled::Past(past, count) = found else {
-            return found;
-        };
-        counts[i] = count as u32;
-        at = past;
-        prior += count;
-        i += 1;
+    let mut rest = from;
+    let mut ranges = 0;
+    for count in counts.iter_mut() {
+        let (past, n) = read_list(rest, ranges, starts, ends, values)?;
+        *count = n as u32;
+        rest = past;
+        ranges += n;
     }
-    Filled::Past(at, prior)
+    Ok((rest, ranges))
 }
 
 // A whole file: what it holds, its lists being in the columns, or why it is refused.
@@ -109,30 +76,16 @@ pub fn read_file(
     ends: &mut [i64; 2048],
     values: &mut [i32; 2048],
     counts: &mut [u32; 16],
-) -> Contents
+) -> Result<Contents, Refusal>
     ensures { Holds file.now result (record { starts = starts.new; ends = ends.new; values = values.new; counts = counts.new }) }
 {
     if MAX_BYTES < file.len() {
-        return Contents::Refused(Refusal::TooLong);
+        return Err(Refusal::TooLong);
     }
-    match head_at(file) {
-        Opened::Refused(x) => Contents::Refused(x),
-        Opened::Head(task, operation, combiner, lists) => {
-            match read_lists(file, HEAD_SIZE, lists, starts, ends, values, counts) {
-                Filled::Stopped(x) => Contents::Refused(x),
-                Filled::Past(past, ranges) => {
-                    if past < file.len() {
-                        return Contents::Refused(Refusal::LeftOver(past));
-                    }
-                    Contents::Held(Head {
-                        task,
-                        operation,
-                        combiner,
-                        lists,
-                        ranges,
-                    })
-                }
-            }
-        }
+    let (head, lists) = head_at(file)?;
+    let (rest, ranges) = read_lists(lists, starts, ends, values, &mut counts[..head.lists])?;
+    if !rest.bytes.is_empty() {
+        return Err(Refusal::LeftOver(rest.at));
     }
+    Ok(Contents { head, ranges })
 }

@@ -1,4 +1,5 @@
--- Laws for the code: numbers of at most eight bytes, what columns take, a loop over records, a range's record and ranges in turn.
+-- Laws for the code: a record at its place, numbers of at most eight bytes, what columns take, a loop over records, and ranges.
+pub mod Records
 pub mod Numbers
 pub mod Columns
 pub mod Turns

@@ -4,48 +4,50 @@ use mathlib.Core.Path.{◌≡◌, refl, sym, ap, ◌∙◌}
 use mathlib.Core.List.{List, [], ◌∷◌, ◌++◌, append-nil}
 use native.Mathlib.Omega.{arith}
 use native.Mathlib.Nat.{sub-zero}
-use lib.ListN.{length, drop, length-append}
+use lib.ListN.{length, length-append}
 use Rattle.tariff_file.specs.Reader.{Parsed, stop, got, Reader, many}
 use Rattle.tariff_file.specs.declared.Refusal.{Refusal}
 use Rattle.tariff_file.proofs.Places.{after, many_after, many_stop}
+use Rattle.file_records.specs.Ends.{reads}
+use Rattle.file_records.specs.declared.rest.Rest.{Rest}
 
-module _ {A S : Type 0} (p : S → Reader A) (next : S → A → S) (file : List ℕ) (n : ℕ) (first : S) (from : ℕ) where
+module _ {A S : Type 0} (p : S → Reader A) (next : S → A → S) (n : ℕ) (first : S) (from : Rest) where
   abbrev all : Parsed (List A)
-  all = many p next n first from (drop from file)
+  all = reads (many p next n first) from
 
-  abbrev left : ℕ → S → ℕ → Parsed (List A)
-  left i now at = many p next (n - i) now at (drop at file)
+  abbrev left : ℕ → S → Rest → Parsed (List A)
+  left i now rest = reads (many p next (n - i) now) rest
 
-  -- i of the n that start at `from` are done, and the next one starts at `at`
-  pub record Going (i : ℕ) (done : List A) (now : S) (at : ℕ) : Type 0 where
+  -- i of the n that start at `from` are done, and `rest` is left
+  pub record Going (i : ℕ) (done : List A) (now : S) (rest : Rest) : Type 0 where
     pub few : i ≤ n
     pub long : length done ≡ i
-    pub within : at ≤ length file
-    pub on : all ≡ after p next done (left i now at)
+    pub on : all ≡ after p next done (left i now rest)
 
   after_none : (r : Parsed (List A)) → after p next [] r ≡ r
   after_none (stop x) = refl
   after_none (got xs at b) = refl
 
-  pub going_first : from ≤ length file → Going 0 [] first from
-  going_first h = record { few = omega arith; long = refl; within = h; on = sym (after_none (left 0 first from) ∙ ap (λ (k : ℕ). many p next k first from (drop from file)) (sub-zero n)) }
+  pub going_first : Going 0 [] first from
+  going_first = record { few = omega arith; long = refl; on = sym (after_none (left 0 first from) ∙ ap (λ (k : ℕ). reads (many p next k first) from) (sub-zero n)) }
 
-  module _ {i : ℕ} {done : List A} {now : S} {at : ℕ} (g : Going i done now at) where
+  module _ {i : ℕ} {done : List A} {now : S} {rest : Rest} (g : Going i done now rest) where
     -- at least one is to come
-    left_more : i < n → left i now at ≡ many p next (suc (n - (i + 1))) now at (drop at file)
-    left_more h = let z : n - i ≡ suc (n - (i + 1)) = omega arith in ap (λ (k : ℕ). many p next k now at (drop at file)) z
+    left_more : i < n → left i now rest ≡ reads (many p next (suc (n - (i + 1))) now) rest
+    left_more h = let z : n - i ≡ suc (n - (i + 1)) = omega arith in ap (λ (k : ℕ). reads (many p next k now) rest) z
 
-    pub going_more : i < n → (a : A) (past : ℕ) → past ≤ length file → p now at (drop at file) ≡ got a past (drop past file) → Going (i + 1) (done ++ (a ∷ [])) (next now a) past
-    going_more h a past w e =
+    pub going_more : i < n → (a : A) (past : Rest) → reads (p now) rest ≡ got a past.at past.bytes.now → Going (i + 1) (done ++ (a ∷ [])) (next now a) past
+    going_more h a past e =
         record {
           few = omega arith;
           long = length-append done (a ∷ []) ∙ ap (λ (k : ℕ). k + 1) g.long;
-          within = w;
-          on = g.on ∙ ap (after p next done) (left_more h) ∙ many_after p next (n - (i + 1)) now at (drop at file) a past (drop past file) done e;
+          on = g.on ∙ ap (after p next done) (left_more h) ∙ many_after p next (n - (i + 1)) now rest.at rest.bytes.now a past.at past.bytes.now done e;
         }
 
-    pub going_stops : i < n → (x : Refusal) → p now at (drop at file) ≡ stop x → all ≡ stop x
-    going_stops h x e = g.on ∙ ap (after p next done) (left_more h ∙ many_stop p next (n - (i + 1)) now at (drop at file) x e)
+    pub going_stops : i < n → (x : Refusal) → reads (p now) rest ≡ stop x → all ≡ stop x
+    going_stops h x e = g.on ∙ ap (after p next done) (left_more h ∙ many_stop p next (n - (i + 1)) now rest.at rest.bytes.now x e)
 
-    pub going_last : n ≤ i → all ≡ got done at (drop at file)
-    going_last h = let z : n - i ≡ 0 = omega arith in g.on ∙ ap (λ (k : ℕ). after p next done (many p next k now at (drop at file))) z ∙ ap (λ l. got l at (drop at file)) (append-nil done)
+    pub going_last : n ≤ i → all ≡ got done rest.at rest.bytes.now
+    going_last h =
+        let z : n - i ≡ 0 = omega arith in
+        g.on ∙ ap (λ (k : ℕ). after p next done (reads (many p next k now) rest)) z ∙ ap (λ l. got l rest.at rest.bytes.now) (append-nil done)

@@ -1,131 +1,69 @@
-// Records of a tariff file at their places: numbers, marks, and ranges, which go into columns.
+// Records of a tariff file: what is left of it, numbers, and ranges, which go into columns.
 
 #![tactic(auto)]
 
-ghost use Rattle.std.specs.Prelude.{ℕ, ◌+◌, ◌^◌, ◌≤◌, ◌<◌, ◌≡◌, [], ◌∷◌, length, take, drop};
+ghost use Rattle.std.specs.Prelude.{◌+◌, ◌^◌, ◌≤◌, ◌<◌, ◌≡◌, [], ◌∷◌, length, take, drop};
 ghost use Rattle.rules.specs.Merged.{output, before, after, room};
-ghost use Rattle.tariff_file.specs.Layout.{number, integer};
+ghost use Rattle.tariff_file.specs.Layout.{number};
 ghost use Rattle.tariff_file.specs.File.{read_range, read_ranges};
-ghost use Rattle.file_records.specs.Ends.{Ends, Marked};
+ghost use Rattle.file_records.specs.Ends.{Ends};
 ghost use Rattle.file_records.specs.Columns.{Took};
 
-use tariff_file::{Passed, Refusal};
+mod rest;
 
-// The first byte of each record's mark.
-const MARK: u8 = 0x4A;
+pub use rest::Rest;
+use tariff_file::Refusal;
 
-// The second byte of a range's, and its bytes.
+// The second byte of a range's mark, and its bytes.
 const RANGE: u8 = 0x52;
 
 const RANGE_SIZE: usize = 22;
 
-// Half of what eight bytes write, and four.
-const HALF_OF_EIGHT: u64 = 0x8000_0000_0000_0000;
-
-const HALF_OF_FOUR: u64 = 0x8000_0000;
-
-// The place of the i-th of k bytes: the first weighs most.
-fn place_of(at: usize, k: usize, i: usize) -> usize
-    requires { (i < k) × (at + k < 2 ^ 64) }
-    ensures { result ≡ at + i }
-{
-    at + i
-}
-
 // The number that k bytes write, big-endian.
-pub fn number_at(file: &[u8], at: usize, k: usize) -> u64
-    requires { (at + k ≤ length file.now) × (k ≤ 8) }
-    ensures { (result ≡ number (take k (drop at file.now))) × (result < 256 ^ k) }
+pub fn number_at(bytes: &[u8], at: usize, k: usize) -> u64
+    requires { (at + k ≤ length bytes.now) × (k ≤ 8) }
+    ensures { (result ≡ number (take k (drop at bytes.now))) × (result < 256 ^ k) }
 {
-    let mut n: u64 = 0;
-    let mut i = 0;
-    while i < k {
-        let place = place_of(at, k, i);
-        n = n * 256 + file[place] as u64;
-        i += 1;
-    }
-    n
+    let mut padded = [0; 8];
+    padded[8 - k..].copy_from_slice(&bytes[at..at + k]);
+    u64::from_be_bytes(padded)
 }
 
-// A number as two's complement reads it, from half of what its bytes write on as a negative one.
-fn signed(n: u64, half: u64) -> i64
-    requires { (n < half + half) × (half ≤ 2 ^ 63) }
-    ensures { (k : ℕ) → half + half ≡ 256 ^ k → result ≡ integer k n }
-{
-    if n < half {
-        n as i64
-    } else {
-        -1 - (half - 1 - (n - half)) as i64
-    }
-}
-
-// Past a record, where its mark and all its bytes are there.
-pub fn record_at(file: &[u8], at: usize, second: u8, size: usize) -> Passed
-    requires { at ≤ length file.now }
-    ensures { Marked file.now at second size result }
-{
-    let left = file.len() - at;
-    if left < 2 {
-        return Passed::Stopped(Refusal::CutShort(at));
-    }
-    if file[at] != MARK {
-        return Passed::Stopped(Refusal::WrongMark(at));
-    }
-    if file[at + 1] != second {
-        return Passed::Stopped(Refusal::WrongMark(at));
-    }
-    if left < size {
-        return Passed::Stopped(Refusal::CutShort(at));
-    }
-    Passed::Past(at + size)
-}
-
-// A range, into a place of the columns.
-fn read_range(
-    file: &[u8],
-    at: usize,
+// A range, into a place of the columns, which stay apart: a struct that holds them as `&mut` can not be lent on in a loop.
+fn read_range<'a>(
+    from: Rest<'a>,
     place: usize,
     starts: &mut [i64],
     ends: &mut [i64],
     values: &mut [i32],
-) -> Passed
-    requires { (at ≤ length file.now) × (place < room (output starts ends values)) }
+) -> Result<Rest<'a>, Refusal>
+    requires { place < room (output starts ends values) }
     ensures { let took = Took place (before starts ends values) (after starts ends values) in
-        Ends read_range file.now at (λ x. took (x ∷ [])) result }
+        Ends read_range from.entry (λ x. took (x ∷ [])) result }
 {
-    let found = record_at(file, at, RANGE, RANGE_SIZE);
-    let Passed::Past(_) = found else {
-        return found;
-    };
-    starts[place] = signed(number_at(file, at + 2, 8), HALF_OF_EIGHT);
-    ends[place] = signed(number_at(file, at + 10, 8), HALF_OF_EIGHT);
-    values[place] = signed(number_at(file, at + 18, 4), HALF_OF_FOUR) as i32;
-    found
+    let rest = from.record_at(RANGE, RANGE_SIZE)?;
+    starts[place] = number_at(from.bytes, 2, 8).cast_signed();
+    ends[place] = number_at(from.bytes, 10, 8).cast_signed();
+    values[place] = (number_at(from.bytes, 18, 4) as u32).cast_signed();
+    Ok(rest)
 }
 
 // So many ranges, into the columns from a place on.
-pub fn read_ranges(
-    file: &[u8],
-    at: usize,
+pub fn read_ranges<'a>(
+    from: Rest<'a>,
     n: usize,
     place: usize,
     starts: &mut [i64],
     ends: &mut [i64],
     values: &mut [i32],
-) -> Passed
-    requires { (at ≤ length file.now) × (place + n ≤ room (output starts ends values)) }
+) -> Result<Rest<'a>, Refusal>
+    requires { place + n ≤ room (output starts ends values) }
     ensures { let took = Took place (before starts ends values) (after starts ends values) in
-        Ends (read_ranges n) file.now at (λ l. (length l ≡ n) × took l) result }
+        Ends (read_ranges n) from.entry (λ l. (length l ≡ n) × took l) result }
 {
-    let mut past = at;
-    let mut i = 0;
-    while i < n {
-        let found = read_range(file, past, place + i, starts, ends, values);
-        let Passed::Past(next) = found else {
-            return found;
-        };
-        past = next;
-        i += 1;
+    let mut rest = from;
+    for i in 0..n {
+        rest = read_range(rest, place + i, starts, ends, values)?;
     }
-    Passed::Past(past)
+    Ok(rest)
 }

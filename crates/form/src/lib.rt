@@ -1,13 +1,14 @@
-// The form checker, but for the columns: what is refused by the shape of what is lent, and by one range.
+// The form checker: what is refused before an operation runs.
 
 #![tactic(auto)]
 
 ghost use Rattle.std.specs.Prelude.{◌≡◌, ◌≤◌, length};
-ghost use Rattle.rules.specs.Lists.{total};
-ghost use Rattle.rules.specs.Answer.{two_way, unknown_combiner, judge_range};
-ghost use Rattle.form.specs.Shape.{judge_shape, piece, ended};
+ghost use Rattle.rules.specs.Lists.{held, total};
+ghost use Rattle.rules.specs.Answer.{judge_range};
+ghost use Rattle.form.specs.Shape.{piece, shape, Long, one_list, end_to_end, Looked, Judged};
 
-use rules::{Answer, Judgement, Kind, MAX_LISTS, MAX_RANGES};
+use integer::{Integer, key_at};
+use rules::{Kind, Lists, MAX_LISTS, MAX_RANGES, Refusal};
 
 // A range of a tariff, its points told by their keys.
 #[derive(Clone, Copy)]
@@ -17,49 +18,29 @@ pub struct Range {
     pub value: i32,
 }
 
-// What came before a range in its list: nothing, or a range that ended there.
-#[derive(Clone, Copy)]
-pub enum Prior {
-    Nothing,
-    End(u64),
+impl Range {
+    // The range from one point to another, both in it.
+    pub fn new<P: Integer>(start: P, end: P, value: i32) -> Range
+        ensures { result ≡ record { start = P.width.key start; end = P.width.key end; value = value } }
+    {
+        Range {
+            start: start.key(),
+            end: end.key(),
+            value,
+        }
+    }
 }
 
-// Judges one range, whose flat index is `place`.
-pub fn judge_range(prior: Prior, range: Range, place: usize) -> Judgement
-    ensures { result ≡ judge_range (ended prior) (piece range place) }
+// Judges one range, whose flat index is `place`, after one of its list that ended at `prior`.
+pub fn judge_range(prior: Option<u64>, range: Range, place: usize) -> Result<(), Refusal>
+    ensures { result ≡ judge_range prior (piece range place) }
 {
     if range.end < range.start {
-        return Judgement::Refused(Answer::Backward(place));
+        return Err(Refusal::Backward(place));
     }
-    let Prior::End(end) = prior else {
-        return Judgement::Sound;
-    };
-    if range.start <= end {
-        Judgement::Refused(Answer::Overlap(place))
-    } else {
-        Judgement::Sound
-    }
-}
-
-fn is_two_way(kind: Kind) -> bool
-    ensures { result ≡ two_way kind }
-{
-    match kind {
-        Kind::Listing => false,
-        Kind::TwoWay => true,
-        Kind::Combining(_) => false,
-        Kind::Selection => false,
-    }
-}
-
-fn is_unknown(kind: Kind) -> bool
-    ensures { result ≡ unknown_combiner kind }
-{
-    match kind {
-        Kind::Listing => false,
-        Kind::TwoWay => false,
-        Kind::Combining(known) => !known,
-        Kind::Selection => false,
+    match prior {
+        Some(end) if range.start <= end => Err(Refusal::Overlap(place)),
+        _ => Ok(()),
     }
 }
 
@@ -68,41 +49,69 @@ fn add_up(counts: &[u32]) -> usize
     requires { length counts.now ≤ 16 }
     ensures { result ≡ total counts.now }
 {
-    let mut sum: usize = 0;
-    let mut k: usize = 0;
-    while k < counts.len() {
-        sum += counts[k] as usize;
-        k += 1;
-    }
-    sum
+    counts.iter().map(|n| *n as usize).sum()
 }
 
 // Judges the number of lists, the lengths of the columns and the combiner.
-pub fn judge_shape(
-    kind: Kind,
-    starts: usize,
-    ends: usize,
-    values: usize,
-    counts: &[u32],
-) -> Judgement
-    ensures { result ≡ judge_shape kind starts ends values counts.now }
+#[tactic(auto, unfolding(crate::specs::Shape::judge_shape))]
+pub fn judge_shape<P>(kind: Kind, lent: Lists<P>) -> Result<(), Refusal>
+    ensures { result ≡ shape kind (held lent.entry) }
 {
-    if MAX_LISTS < counts.len() {
-        return Judgement::Refused(Answer::TooManyLists);
+    let ranges = lent.starts.len();
+    if MAX_LISTS < lent.counts.len() {
+        return Err(Refusal::TooManyLists);
     }
-    if is_two_way(kind) {
-        if counts.len() != 2 {
-            return Judgement::Refused(Answer::NotTwoLists);
-        }
+    if kind == Kind::TwoWay && lent.counts.len() != 2 {
+        return Err(Refusal::NotTwoLists);
     }
-    if ends != starts || values != starts || add_up(counts) != starts {
-        return Judgement::Refused(Answer::ColumnsDiffer);
+    if lent.ends.len() != ranges || lent.values.len() != ranges || add_up(lent.counts) != ranges {
+        return Err(Refusal::ColumnsDiffer);
     }
-    if MAX_RANGES < starts {
-        return Judgement::Refused(Answer::TooManyRanges);
+    if MAX_RANGES < ranges {
+        return Err(Refusal::TooManyRanges);
     }
-    if is_unknown(kind) {
-        return Judgement::Refused(Answer::UnknownCombiner);
+    if kind == Kind::Combining(false) {
+        return Err(Refusal::UnknownCombiner);
     }
-    Judgement::Sound
+    Ok(())
+}
+
+// The list at places from `from` up to but not `stop`.
+fn judge_list<P: Integer>(lent: Lists<P>, from: usize, stop: usize) -> Result<(), Refusal>
+    requires { (from ≤ stop) × Long (held lent) stop }
+    ensures { Looked P.width (held lent.entry) from stop (one_list P.width (held lent.entry) from stop) result }
+{
+    let mut prior = None;
+    for i in from..stop {
+        let range = Range {
+            start: key_at(lent.starts, i),
+            end: key_at(lent.ends, i),
+            value: lent.values[i],
+        };
+        judge_range(prior, range, i)?;
+        prior = Some(range.end);
+    }
+    Ok(())
+}
+
+// Lists that lie end to end.
+fn judge_lists<P: Integer>(lent: Lists<P>) -> Result<(), Refusal>
+    requires { Long (held lent) (total (held lent).counts) }
+    ensures { Looked P.width (held lent.entry) 0 (total (held lent.entry).counts) (end_to_end P.width (held lent.entry)) result }
+{
+    let mut from: usize = 0;
+    for count in lent.counts {
+        let stop = from + *count as usize;
+        judge_list(lent, from, stop)?;
+        from = stop;
+    }
+    Ok(())
+}
+
+// What is refused before an operation runs, for any columns and any counts.
+pub fn judge<P: Integer>(kind: Kind, lent: Lists<P>) -> Result<(), Refusal>
+    ensures { Judged P.width kind (held lent.entry) result }
+{
+    judge_shape(kind, lent)?;
+    judge_lists(lent)
 }

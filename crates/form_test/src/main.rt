@@ -2,73 +2,38 @@
 
 #![tactic(auto)]
 
-pub mod cases;
-pub mod instant;
-pub mod seat;
+mod cases;
+mod judged;
 
-ghost use Rattle.std.specs.Prelude.{◌<◌};
+use cases::{FEW, MANY};
+use judged::{judged_few, judged_many};
+use rules::Refusal;
+use std::{fmt, io};
 
-use cases::{FEW_ROWS, MANY_ROWS, few, many};
-use rules::{Judgement, code, number};
+#[derive(Drop)]
+struct Found(Result<(), Refusal>);
 
-fn print_few(row: usize)
-    requires { row < 48 }
-{
-    let mut i: usize = 0;
-    while i < 15 {
-        io::write_all(1, &[few(row, i)]);
-        i += 1;
+impl fmt::Display for Found {
+    fn fmt<W: fmt::Write>(&self, f: &mut fmt::Formatter<W>) -> fmt::Result {
+        match self.0 {
+            Ok(_) => f.write_str("sound"),
+            Err(refusal) => write!(f, "refused {} {}", refusal.code(), refusal.number()),
+        }
     }
 }
 
-fn print_many(row: usize)
-    requires { row < 17 }
-{
-    let mut i: usize = 0;
-    while i < 14 {
-        io::write_all(1, &[many(row, i)]);
-        i += 1;
+fn main(rt: HostRuntime) -> io::Result<()> {
+    let (mut seat_starts, mut seat_ends) = ([0u32; 2049], [0u32; 2049]);
+    let (mut instant_starts, mut instant_ends) = ([0i64; 2049], [0i64; 2049]);
+    for case in FEW {
+        let seats = Found(judged_few(case, &mut seat_starts, &mut seat_ends));
+        let instants = Found(judged_few(case, &mut instant_starts, &mut instant_ends));
+        println!(rt; "{case} seats: {seats}; instants: {instants}")?;
     }
-}
-
-fn print_found(found: Judgement) {
-    let Judgement::Refused(answer) = found else {
-        io::write_all(1, b"sound");
-        return;
-    };
-    io::write_all(1, b"refused ");
-    io::print_decimal(1, code(answer) as u64);
-    io::write_all(1, b" ");
-    io::print_decimal(1, number(answer) as u64);
-}
-
-fn print_both(seats: Judgement, instants: Judgement) {
-    io::write_all(1, b" seats: ");
-    print_found(seats);
-    io::write_all(1, b"; instants: ");
-    print_found(instants);
-    io::write_all(1, b"\n");
-}
-
-fn judge_few() {
-    let mut row: usize = 0;
-    while row < FEW_ROWS {
-        print_few(row);
-        print_both(seat::judged_few(row), instant::judged_few(row));
-        row += 1;
+    for case in MANY {
+        let seats = Found(judged_many(case, &mut seat_starts, &mut seat_ends));
+        let instants = Found(judged_many(case, &mut instant_starts, &mut instant_ends));
+        println!(rt; "{case} seats: {seats}; instants: {instants}")?;
     }
-}
-
-fn judge_many() {
-    let mut row: usize = 0;
-    while row < MANY_ROWS {
-        print_many(row);
-        print_both(seat::judged_many(row), instant::judged_many(row));
-        row += 1;
-    }
-}
-
-fn main() {
-    judge_few();
-    judge_many();
+    Ok(())
 }

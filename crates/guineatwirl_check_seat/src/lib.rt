@@ -2,17 +2,35 @@
 
 #![tactic(auto)]
 
-ghost use Rattle.std.proofs.Math.Option.{none};
+ghost use Rattle.std.specs.declared.option.Option.TheVariants.{None};
 ghost use Rattle.rules.specs.Answer.{judge_list};
 ghost use Rattle.tariffs.specs.Told.{Told};
-ghost use Rattle.tariffs_seat.specs.Pieces.{pieces};
+ghost use Rattle.guineatwirl_check_seat.specs.Pieces.{range, pieces};
 
-use tariffs::tell;
-use tariffs_seat::{Tariff, judge_tariffs};
+use form::Range;
+use integer::Seat;
+use tariffs::{Ranged, judge_tariffs, tell};
+
+// A tariff, laid out as in C: an exported function takes no struct with a type parameter, so each width has its own.
+#[repr(C)]
+#[derive(Clone, Copy)]
+pub struct Tariff {
+    pub start: Seat,
+    pub end: Seat,
+    pub value: i32,
+}
+
+impl Ranged for Tariff {
+    ghost range = { range };
+
+    fn range(self) -> Range {
+        Range::new(self.start, self.end, self.value)
+    }
+}
 
 #[unsafe(no_mangle)]
 pub extern "C" fn guineatwirl_seat_check_list(list: &[Tariff], number: &mut u64) -> u8
-    ensures { Told (judge_list none (pieces list.now)) result number.new }
+    ensures { Told (judge_list None (pieces list.now)) result number.new }
 {
     tell(judge_tariffs(list), number)
 }

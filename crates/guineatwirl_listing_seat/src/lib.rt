@@ -7,18 +7,18 @@ ghost use Rattle.rules.specs.Said.{Said};
 ghost use Rattle.rules.specs.Listed as listed;
 ghost use Rattle.rules.specs.Outcomes.{listing};
 
-use event_listing_seat::list_events;
-use integer::seat::Point;
-use rules::{code, number as number_of};
+use event_listing::list_events;
+use integer::Seat;
+use rules::{Lists, code, number as number_of};
 
 #[unsafe(no_mangle)]
 pub extern "C" fn guineatwirl_seat_list_events(
-    starts: &[Point],
-    ends: &[Point],
+    starts: &[Seat],
+    ends: &[Seat],
     values: &[i32],
     counts: &[u32],
     out_kind: &mut [u8],
-    out_point: &mut [Point],
+    out_point: &mut [Seat],
     out_list: &mut [u8],
     out_value: &mut [i32],
     number: &mut u64,
@@ -27,9 +27,13 @@ pub extern "C" fn guineatwirl_seat_list_events(
         let d = listed.after out_kind out_point out_list out_value in
         Said (listing seats (given starts ends values counts) c) result number.new d }
 {
-    let events = list_events(
-        starts, ends, values, counts, out_kind, out_point, out_list, out_value,
-    );
+    let lent = Lists {
+        starts,
+        ends,
+        values,
+        counts,
+    };
+    let events = list_events(lent, out_kind, out_point, out_list, out_value);
     *number = number_of(events) as u64;
     code(events)
 }

@@ -8,21 +8,21 @@ ghost use Rattle.rules.specs.Merged as merged;
 ghost use Rattle.many_way_rules.specs.Operations.{inner, full, union, symmetric_difference};
 ghost use Rattle.many_way_rules.specs.Outcomes.{merging};
 
-use integer::instant::Point;
-use multiway_instant::{
+use integer::Instant;
+use multiway::{
     multiway_full_join, multiway_inner_join, multiway_symmetric_difference, multiway_union,
 };
-use rules::{code, number as number_of};
+use rules::{Lists, code, number as number_of};
 
 #[unsafe(no_mangle)]
 pub extern "C" fn guineatwirl_instant_multiway_inner_join(
     combiner: u8,
-    starts: &[Point],
-    ends: &[Point],
+    starts: &[Instant],
+    ends: &[Instant],
     values: &[i32],
     counts: &[u32],
-    out_start: &mut [Point],
-    out_end: &mut [Point],
+    out_start: &mut [Instant],
+    out_end: &mut [Instant],
     out_value: &mut [i64],
     number: &mut u64,
 ) -> u8
@@ -30,9 +30,13 @@ pub extern "C" fn guineatwirl_instant_multiway_inner_join(
         let d = merged.after out_start out_end out_value in
         Said (merging instants (inner combiner) (given starts ends values counts) c) result number.new d }
 {
-    let every = multiway_inner_join(
-        combiner, starts, ends, values, counts, out_start, out_end, out_value,
-    );
+    let lent = Lists {
+        starts,
+        ends,
+        values,
+        counts,
+    };
+    let every = multiway_inner_join(combiner, lent, out_start, out_end, out_value);
     *number = number_of(every) as u64;
     code(every)
 }
@@ -40,12 +44,12 @@ pub extern "C" fn guineatwirl_instant_multiway_inner_join(
 #[unsafe(no_mangle)]
 pub extern "C" fn guineatwirl_instant_multiway_full_join(
     combiner: u8,
-    starts: &[Point],
-    ends: &[Point],
+    starts: &[Instant],
+    ends: &[Instant],
     values: &[i32],
     counts: &[u32],
-    out_start: &mut [Point],
-    out_end: &mut [Point],
+    out_start: &mut [Instant],
+    out_end: &mut [Instant],
     out_value: &mut [i64],
     number: &mut u64,
 ) -> u8
@@ -53,21 +57,25 @@ pub extern "C" fn guineatwirl_instant_multiway_full_join(
         let d = merged.after out_start out_end out_value in
         Said (merging instants (full combiner) (given starts ends values counts) c) result number.new d }
 {
-    let any = multiway_full_join(
-        combiner, starts, ends, values, counts, out_start, out_end, out_value,
-    );
+    let lent = Lists {
+        starts,
+        ends,
+        values,
+        counts,
+    };
+    let any = multiway_full_join(combiner, lent, out_start, out_end, out_value);
     *number = number_of(any) as u64;
     code(any)
 }
 
 #[unsafe(no_mangle)]
 pub extern "C" fn guineatwirl_instant_multiway_union(
-    starts: &[Point],
-    ends: &[Point],
+    starts: &[Instant],
+    ends: &[Instant],
     values: &[i32],
     counts: &[u32],
-    out_start: &mut [Point],
-    out_end: &mut [Point],
+    out_start: &mut [Instant],
+    out_end: &mut [Instant],
     out_value: &mut [i64],
     number: &mut u64,
 ) -> u8
@@ -75,19 +83,25 @@ pub extern "C" fn guineatwirl_instant_multiway_union(
         let d = merged.after out_start out_end out_value in
         Said (merging instants union (given starts ends values counts) c) result number.new d }
 {
-    let picked = multiway_union(starts, ends, values, counts, out_start, out_end, out_value);
+    let lent = Lists {
+        starts,
+        ends,
+        values,
+        counts,
+    };
+    let picked = multiway_union(lent, out_start, out_end, out_value);
     *number = number_of(picked) as u64;
     code(picked)
 }
 
 #[unsafe(no_mangle)]
 pub extern "C" fn guineatwirl_instant_multiway_symmetric_difference(
-    starts: &[Point],
-    ends: &[Point],
+    starts: &[Instant],
+    ends: &[Instant],
     values: &[i32],
     counts: &[u32],
-    out_start: &mut [Point],
-    out_end: &mut [Point],
+    out_start: &mut [Instant],
+    out_end: &mut [Instant],
     out_value: &mut [i64],
     number: &mut u64,
 ) -> u8
@@ -95,9 +109,13 @@ pub extern "C" fn guineatwirl_instant_multiway_symmetric_difference(
         let d = merged.after out_start out_end out_value in
         Said (merging instants symmetric_difference (given starts ends values counts) c) result number.new d }
 {
-    let odd = multiway_symmetric_difference(
-        starts, ends, values, counts, out_start, out_end, out_value,
-    );
+    let lent = Lists {
+        starts,
+        ends,
+        values,
+        counts,
+    };
+    let odd = multiway_symmetric_difference(lent, out_start, out_end, out_value);
     *number = number_of(odd) as u64;
     code(odd)
 }

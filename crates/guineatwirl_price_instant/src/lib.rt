@@ -6,23 +6,22 @@ ghost use Rattle.rules.specs.Lists.{instants};
 ghost use Rattle.rules.specs.Merged as merged;
 ghost use Rattle.price.specs.Reading.{Told, price_at};
 
-use integer::instant::Point;
-use price::{written_presence, written_value};
-use price_instant::price_at;
+use integer::Instant;
+use price::Pieces;
 
 // 1 comes back where there is a price, which is written; else 0, and 0 is written.
 #[unsafe(no_mangle)]
 pub extern "C" fn guineatwirl_instant_price_at(
-    start: &[Point],
-    end: &[Point],
+    start: &[Instant],
+    end: &[Instant],
     value: &[i64],
     pieces: usize,
-    point: Point,
+    point: Instant,
     price: &mut i64,
 ) -> u8
     ensures { Told (price_at instants (merged.columns «start».now «end».now «value».now) pieces (instants.key point)) result price.new }
 {
-    let found = price_at(start, end, value, pieces, point);
-    *price = written_value(found);
-    written_presence(found)
+    let found = Pieces { start, end, value }.price_at(pieces, point);
+    *price = found.unwrap_or(0);
+    found.is_some() as u8
 }

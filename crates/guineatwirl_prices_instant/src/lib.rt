@@ -7,18 +7,18 @@ ghost use Rattle.rules.specs.Said.{Said};
 ghost use Rattle.rules.specs.Merged as merged;
 ghost use Rattle.price.specs.Batch as priced;
 
-use integer::instant::Point;
-use price_instant::prices_at;
+use integer::Instant;
+use price::Pieces;
 use rules::{code, number as number_of};
 
 // An answer's code comes back, and its number is written.
 #[unsafe(no_mangle)]
 pub extern "C" fn guineatwirl_instant_prices_at(
-    start: &[Point],
-    end: &[Point],
+    start: &[Instant],
+    end: &[Instant],
     value: &[i64],
     pieces: usize,
-    points: &[Point],
+    points: &[Instant],
     out_value: &mut [i64],
     out_presence: &mut [u8],
     number: &mut u64,
@@ -28,7 +28,8 @@ pub extern "C" fn guineatwirl_instant_prices_at(
         let f = priced.after out_value out_presence in
         Said (priced.prices_at instants c pieces points.now d) result number.new f }
 {
-    let rows = prices_at(start, end, value, pieces, points, out_value, out_presence);
+    let columns = Pieces { start, end, value };
+    let rows = columns.prices_at(pieces, points, out_value, out_presence);
     *number = number_of(rows) as u64;
     code(rows)
 }

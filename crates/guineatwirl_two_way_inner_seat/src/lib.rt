@@ -8,18 +8,18 @@ ghost use Rattle.rules.specs.Paired as paired;
 ghost use Rattle.rules.specs.Outcomes.{pairing};
 ghost use Rattle.rules.specs.declared.Pairing.TheVariants.{Inner};
 
-use integer::seat::Point;
-use rules::{code, number as number_of};
-use two_way_join_seat::inner_join;
+use integer::Seat;
+use rules::{Lists, code, number as number_of};
+use two_way_join::inner_join;
 
 #[unsafe(no_mangle)]
 pub extern "C" fn guineatwirl_seat_two_way_inner_join(
-    starts: &[Point],
-    ends: &[Point],
+    starts: &[Seat],
+    ends: &[Seat],
     values: &[i32],
     counts: &[u32],
-    out_start: &mut [Point],
-    out_end: &mut [Point],
+    out_start: &mut [Seat],
+    out_end: &mut [Seat],
     out_left: &mut [i32],
     out_right: &mut [i32],
     out_presence: &mut [u8],
@@ -29,17 +29,13 @@ pub extern "C" fn guineatwirl_seat_two_way_inner_join(
         let d = paired.after out_start out_end out_left out_right out_presence in
         Said (pairing seats Inner (given starts ends values counts) c) result number.new d }
 {
-    let inner = inner_join(
+    let lent = Lists {
         starts,
         ends,
         values,
         counts,
-        out_start,
-        out_end,
-        out_left,
-        out_right,
-        out_presence,
-    );
+    };
+    let inner = inner_join(lent, out_start, out_end, out_left, out_right, out_presence);
     *number = number_of(inner) as u64;
     code(inner)
 }

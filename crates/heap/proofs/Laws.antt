@@ -6,7 +6,8 @@ use native.Mathlib.Omega.{arith}
 use native.Mathlib.Decide.{ℕ_discrete}
 use borrow.Author.Tests.{eq-eqb, ne_eqb}
 use Rattle.heap.specs.Order.{Ordered, one, count}
-use Rattle.heap.specs.Heap.{rank, Entries, Whole, Heap}
+use Rattle.heap.specs.Heap.{rank, ranks, Heap}
+use Rattle.heap.specs.declared.Heap as declared
 
 pub by_eq : {C : Type 0} (a b : ℕ) → (a ≡ b → C) → ((a ≡ b → ⊥) → C) → C
 by_eq {C} a b f g = pick (ℕ_discrete a b)
@@ -73,7 +74,11 @@ module _ (f : ℕ → ℕ) where
   pub top_counted : (e n : ℕ) → Ordered f n → 0 < count e f n → f 0 ≤ e
   top_counted e n o h = let c = counted e n h in omega (arith, top_least n o c.0 c.1, c.2)
 
--- a heap of no entries, whatever stands in the arrays
-pub heap_none : {h : Entries} → Whole h → Heap h 0
+-- a heap of no entries, whatever stands in its places
+pub heap_none : {f : ℕ → ℕ} → Heap f 0
 unfolding Ordered
-heap_none w = record { whole = w; small = omega arith; ordered = λ p i u l. absurd (omega arith) }
+heap_none = record { small = omega arith; ordered = λ p i u l. absurd (omega arith) }
+
+-- what a heap's type says of it
+pub heap_of : (h : declared.Heap) → Heap (ranks h.places) h.len
+heap_of h = record { small = h.small; ordered = h.ordered }

@@ -1,4 +1,3 @@
--- The laws of heaps: order and contents, stores into the array, and moves up and down.
+-- The laws of heaps: order and contents, and moves up and down.
 pub mod Laws
-pub mod Store
 pub mod Moves

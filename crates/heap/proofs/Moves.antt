@@ -1,26 +1,30 @@
 -- The steps of an entry on its way up or down, over ranks. Assumes nothing.
-use Prim.Native.Nat.{ℕ, zero, suc, ◌+◌, ◌-◌, ◌*◌, ◌<◌, ◌≤◌}
+use Prim.Native.Nat.{ℕ, zero, suc, ◌+◌, ◌-◌, ◌<◌, ◌≤◌}
 use mathlib.Core.Path.{◌≡◌, refl, sym, ap, ◌∙◌}
-use mathlib.Core.Bool.{Bool, true, false, ◌||◌, ◌&&◌, true≢false, false≢true}
+use mathlib.Core.Bool.{Bool, true, false, cond, true≢false, false≢true}
 use native.Mathlib.Omega.{arith}
 use lib.Dec.{ltb, eqb}
-use mir.Val.{bool_byte}
 use borrow.Author.Tests.{ltb-true, ltb-false, eqb-true, eqb-false}
+use Rattle.std.specs.Ordering.{is_some_and, is_lt, partial_ordering_then, nat_cmp}
+use Rattle.std.specs.declared.option.Option.TheVariants.{Some}
+use Rattle.std.specs.declared.cmp.Ordering.TheVariants.{Less as Lesser, Equal, Greater}
 use Rattle.integer.specs.Order.{Less}
 use Rattle.heap.specs.Order.{Under, Ordered, one, count}
-use Rattle.heap.specs.Heap.{rank, Entries, Heap, Pushed, Popped, Topped}
-use Rattle.heap.specs.Holes.{OrderedBut, Stored, Replaced, Sunk, Lowers, Raises, Chosen, PutAt, Climbed, Sifted}
+use Rattle.heap.specs.Heap.{rank, Heap, Pushed, Popped, Topped}
+use Rattle.heap.specs.Holes.{OrderedBut, Stored, Replaced, Sunk, Lowers, Raises, Chosen, Climbed, Sifted}
 use Rattle.heap.proofs.Laws.{by_eq, count_more, count_none, heap_none}
 
 -- the order of entries, as the code tests it
-pub earlier_said : (a b : ℕ) {x y : ℕ} → x < 256 → y < 256 → Less (rank a x) (rank b y) (ltb a b || (eqb a b && ltb x y))
+pub earlier_said : (a b : ℕ) {x y : ℕ} → x < 256 → y < 256 → Less (rank a x) (rank b y) (is_some_and is_lt (partial_ordering_then (Some (nat_cmp a b)) (Some (nat_cmp x y))))
 unfolding rank
-earlier_said a b {x} {y} f g = go (ltb a b) (eqb a b) refl refl
+earlier_said a b {x} {y} f g = go (ltb a b) (eqb a b) (ltb x y) (eqb x y) refl refl refl
   where
-    go : (r s : Bool) → ltb a b ≡ r → eqb a b ≡ s → Less (rank a x) (rank b y) (r || (s && ltb x y))
-    go true s l m = record { yes = λ _. omega (arith, ltb-true a b l); no = λ e. absurd (true≢false e) }
-    go false true l m = record { yes = λ e. omega (arith, eqb-true a b m, ltb-true x y e); no = λ e. omega (arith, eqb-true a b m, ltb-false x y e) }
-    go false false l m = record { yes = λ e. absurd (false≢true e); no = λ _. omega (arith, ltb-false a b l, eqb-false a b m) }
+    go : (r s t u : Bool) → ltb a b ≡ r → eqb a b ≡ s → ltb x y ≡ t → Less (rank a x) (rank b y) (is_some_and is_lt (partial_ordering_then (Some (cond r Lesser (cond s Equal Greater))) (Some (cond t Lesser (cond u Equal Greater)))))
+    go true s t u l m n = record { yes = λ _. omega (arith, ltb-true a b l); no = λ e. absurd (true≢false e) }
+    go false true true u l m n = record { yes = λ _. omega (arith, eqb-true a b m, ltb-true x y n); no = λ e. absurd (true≢false e) }
+    go false true false true l m n = record { yes = λ e. absurd (false≢true e); no = λ _. omega (arith, eqb-true a b m, ltb-false x y n) }
+    go false true false false l m n = record { yes = λ e. absurd (false≢true e); no = λ _. omega (arith, eqb-true a b m, ltb-false x y n) }
+    go false false t u l m n = record { yes = λ e. absurd (false≢true e); no = λ _. omega (arith, ltb-false a b l, eqb-false a b m) }
 
 module _ {f g : ℕ → ℕ} {place v : ℕ} (s : Stored f g place v) where
   -- a store of v gives order where v is between the parent and the children
@@ -100,63 +104,35 @@ sift_on {f} {m} {g} {n} {place} {c} {v} w ch l k s =
 pub one_parent : (f : ℕ → ℕ) (p : ℕ) {place v : ℕ} → Under p place → f p ≤ v → (q : ℕ) → Under q place → f q ≤ v
 one_parent f p u l q x = let z : q ≡ p = omega arith in omega (arith, ap f z)
 
-module _ {h r : Entries} {place v : ℕ} where
-  pub climb_stays : PutAt h r place v → ((p : ℕ) → Under p place → h.at p ≤ v) → Climbed h r place v
-  climb_stays s up = record { whole = s.whole; settled = λ n o. rests s.stored o.inside o.ordered up o.below }
+module _ {f g : ℕ → ℕ} {place v : ℕ} where
+  pub climb_stays : Stored f g place v → ((p : ℕ) → Under p place → f p ≤ v) → Climbed f g place v
+  climb_stays s up = record { settled = λ n o. rests s o.inside o.ordered up o.below }
 
-  pub climb_goes : {m : Entries} {p : ℕ} → Under p place → v < h.at p → PutAt h m place (h.at p) → Climbed m r p v → Climbed h r place v
-  climb_goes u l s c = record { whole = c.whole; settled = λ n o. moved o.inside (omega arith) s.stored (c.settled n (climb_on o u l s.stored)) }
+  pub climb_goes : {m : ℕ → ℕ} {p : ℕ} → Under p place → v < f p → Stored f m place (f p) → Climbed m g p v → Climbed f g place v
+  climb_goes u l s c = record { settled = λ n o. moved o.inside (omega arith) s (c.settled n (climb_on o u l s)) }
 
-  pub sift_stays : {n : ℕ} → PutAt h r place v → ((i : ℕ) → Under place i → i < n → v ≤ h.at i) → Sifted h r n place v
+  pub sift_stays : {n : ℕ} → Stored f g place v → ((i : ℕ) → Under place i → i < n → v ≤ f i) → Sifted f g n place v
   unfolding Ordered OrderedBut
   sift_stays s down = record {
-    whole = s.whole;
     settled = λ o.
         record {
-          replaced = rests s.stored o.inside (λ p i u y _ _. o.ordered p i u y) o.above down;
-          before = λ i y. s.stored.other i (omega arith);
-          rises = λ i ne. omega (arith, s.stored.other i ne);
-          least = λ x y z. omega (arith, s.stored.here);
+          replaced = rests s o.inside (λ p i u y _ _. o.ordered p i u y) o.above down;
+          before = λ i y. s.other i (omega arith);
+          rises = λ i ne. omega (arith, s.other i ne);
+          least = λ x y z. omega (arith, s.here);
         };
   }
 
-  pub sift_goes : {m : Entries} {n c : ℕ} → Chosen h.at n place c → h.at c < v → Sifted h m n c v → PutAt m r place (h.at c) → Sifted h r n place v
+  pub sift_goes : {m : ℕ → ℕ} {n c : ℕ} → Chosen f n place c → f c < v → Sifted f m n c v → Stored m g place (f c) → Sifted f g n place v
   unfolding Ordered
-  sift_goes {m} {n} {c} ch l k s = record {
-    whole = s.whole;
+  sift_goes {n = n} {c = c} ch l k s = record {
     settled = λ o.
-        let first : h.at place ≤ h.at c = o.ordered place c ch.under ch.inside in
-        sift_on o ch l (k.settled (record { inside = ch.inside; ordered = o.ordered; above = λ p u. let z : p ≡ place = omega arith in omega (arith, ap h.at z, first) })) s.stored;
+        let first : f place ≤ f c = o.ordered place c ch.under ch.inside in
+        sift_on o ch l (k.settled (record { inside = ch.inside; ordered = o.ordered; above = λ p u. let z : p ≡ place = omega arith in omega (arith, ap f z, first) })) s;
   }
 
-pub only_child : (f : ℕ → ℕ) (n place c : ℕ) → c ≡ 2 * place + 1 → c < n → n ≤ c + 1 → Chosen f n place c
-only_child f n place c q l m = record {
-  under = omega arith;
-  inside = l;
-  least = λ i u x. let z : i ≡ c = omega arith in omega (arith, ap f z);
-}
-
--- of two children c and d, c is not after d
-child_of : (f : ℕ → ℕ) (n place c d : ℕ) → Under place c → Under place d → c + d ≡ 4 * place + 3 → c < n → f c ≤ f d → Chosen f n place c
-child_of f n place c d x y q l m = record {
-  under = x;
-  inside = l;
-  least = λ i u k. by_eq i c (λ z. omega (arith, ap f z)) (λ nz. let z : i ≡ d = omega arith in omega (arith, ap f z));
-}
-
--- the test of the right child against the left chooses
-pub lesser_child : (f : ℕ → ℕ) (n place : ℕ) (r : Bool) → 2 * place + 1 + 1 < n → Less (f (2 * place + 1 + 1)) (f (2 * place + 1)) r → Chosen f n place (2 * place + 1 + bool_byte r)
-lesser_child f n place true l t = child_of f n place (2 * place + 1 + 1) (2 * place + 1) (omega arith) (omega arith) (omega arith) l (omega (arith, t.yes refl))
-lesser_child f n place false l t =
-    let z : 2 * place + 1 + 0 ≡ 2 * place + 1 = omega arith in
-    child_of f n place (2 * place + 1 + 0) (2 * place + 1 + 1) (omega arith) (omega arith) (omega arith) (omega arith) (omega (arith, ap f z, t.no refl))
-
-pub one_more : (r : Bool) → bool_byte r ≤ 1
-one_more true = omega arith
-one_more false = omega arith
-
-module _ {h r : Entries} {n v : ℕ} (o : Heap h n) where
-  pub pushed : n < 16 → Climbed h r n v → Pushed h r n v
+module _ {f g : ℕ → ℕ} {n v : ℕ} (o : Heap f n) where
+  pub pushed : n < 16 → Climbed f g n v → Pushed f g n v
   unfolding Ordered OrderedBut
   pushed l c =
       let t = c.settled (n + 1) (record {
@@ -166,37 +142,37 @@ module _ {h r : Entries} {n v : ℕ} (o : Heap h n) where
         over = λ p i u x y. absurd (omega arith);
       }) in
       record {
-        heap = record { whole = c.whole; small = omega arith; ordered = t.ordered };
-        kept = λ k. omega (arith, t.kept k, count_more h.at k n);
+        heap = record { small = omega arith; ordered = t.ordered };
+        kept = λ k. omega (arith, t.kept k, count_more f k n);
       }
 
-  pub topped : 0 < n → Sifted h r n 0 v → Topped h r n v
+  pub topped : 0 < n → Sifted f g n 0 v → Topped f g n v
   topped l c =
       let t = (c.settled (record { inside = l; ordered = o.ordered; above = λ p u. absurd (omega arith) })).replaced in
-      record { heap = record { whole = c.whole; small = o.small; ordered = t.ordered }; kept = t.kept }
+      record { heap = record { small = o.small; ordered = t.ordered }; kept = t.kept }
 
 -- the last entry takes the place of the top; where it is the top, nothing is left
-pub popped : {h r : Entries} {n : ℕ} → Heap h n → 0 < n → Sifted h r (n - 1) 0 (h.at (n - 1)) → Popped h r n
+pub popped : {f g : ℕ → ℕ} {n : ℕ} → Heap f n → 0 < n → Sifted f g (n - 1) 0 (f (n - 1)) → Popped f g n
 unfolding Ordered
-popped {h} {r} {n} o l c =
+popped {f} {g} {n} o l c =
     let q : n - 1 + 1 ≡ n = omega arith in
-    let all : (k : ℕ) → one k (h.at (n - 1)) + count k h.at (n - 1) ≡ count k h.at n = λ k. sym (count_more h.at k (n - 1)) ∙ ap (count k h.at) q in
+    let all : (k : ℕ) → one k (f (n - 1)) + count k f (n - 1) ≡ count k f n = λ k. sym (count_more f k (n - 1)) ∙ ap (count k f) q in
     by_eq (n - 1) 0
     (λ z. record {
-      heap = rw z (heap_none c.whole);
+      heap = rw z heap_none;
       kept = λ k. omega (
         arith,
         all k,
-        ap (count k r.at) z,
-        ap (count k h.at) z,
-        ap (λ i. one k (h.at i)) z,
-        count_none h.at k,
-        count_none r.at k,
+        ap (count k g) z,
+        ap (count k f) z,
+        ap (λ i. one k (f i)) z,
+        count_none f k,
+        count_none g k,
       );
     })
     (λ nz.
     let t = (c.settled (record { inside = omega arith; ordered = λ p i u x. o.ordered p i u (omega arith); above = λ p u. absurd (omega arith) })).replaced in
     record {
-      heap = record { whole = c.whole; small = omega (arith, o.small); ordered = t.ordered };
+      heap = record { small = omega (arith, o.small); ordered = t.ordered };
       kept = λ k. omega (arith, t.kept k, all k);
     })

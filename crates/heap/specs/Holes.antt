@@ -1,7 +1,6 @@
 -- An entry of rank v on its way to its place: it has a hole at a place, into which the entry of the next place goes, or the entry itself. Assumes nothing.
 use Rattle.std.specs.Prelude.{ℕ, ◌+◌, ◌<◌, ◌≤◌, ◌≡◌}
 use Rattle.heap.specs.Order.{Under, Ordered, one, count}
-use Rattle.heap.specs.Heap.{Entries, Whole}
 
 -- in order but for what stands at a place
 unfoldable pub OrderedBut : (ℕ → ℕ) → ℕ → ℕ → Type 0
@@ -44,15 +43,9 @@ pub record Chosen (f : ℕ → ℕ) (n place c : ℕ) : Type 0 where
   pub inside : c < n
   pub least : (i : ℕ) → Under place i → i < n → f c ≤ f i
 
--- what a store, a climb and a sift give
-pub record PutAt (h r : Entries) (place v : ℕ) : Type 0 where
-  pub whole : Whole r
-  pub stored : Stored h.at r.at place v
+-- what a climb and a sift give
+pub record Climbed (f g : ℕ → ℕ) (place v : ℕ) : Type 0 where
+  pub settled : (n : ℕ) → Lowers f n place v → Replaced f g n place v
 
-pub record Climbed (h r : Entries) (place v : ℕ) : Type 0 where
-  pub whole : Whole r
-  pub settled : (n : ℕ) → Lowers h.at n place v → Replaced h.at r.at n place v
-
-pub record Sifted (h r : Entries) (n place v : ℕ) : Type 0 where
-  pub whole : Whole r
-  pub settled : Raises h.at n place v → Sunk h.at r.at n place v
+pub record Sifted (f g : ℕ → ℕ) (n place v : ℕ) : Type 0 where
+  pub settled : Raises f n place v → Sunk f g n place v

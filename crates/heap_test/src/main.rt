@@ -3,23 +3,17 @@
 
 #![tactic(auto)]
 
-ghost use Rattle.std.specs.Prelude.{◌<◌};
-ghost use Rattle.heap.specs.Heap.{entries, entries_after, Whole, Heap};
+ghost use Rattle.std.specs.Prelude.{◌<◌, ◌≡◌};
 
-use heap::{pop, push, replace_top};
+use heap::{Entry, Heap};
+use std::io;
 
-fn letter(list: u8) -> u8 {
-    if list < 16 {
-        return b'a' + list;
+fn letter(list: u8) -> char {
+    match list {
+        0..=15 => (b'a' + list) as char,
+        16..=31 => (b'A' + (list - 16)) as char,
+        _ => '?',
     }
-    if list < 32 {
-        return b'A' + (list - 16);
-    }
-    b'?'
-}
-
-fn say(text: &[u8; 17]) {
-    io::write_all(1, text);
 }
 
 // The key of a list: some share one, and some have the least or the greatest.
@@ -37,73 +31,53 @@ fn key(list: u8) -> u64 {
     }
 }
 
-// Pushes the sixteen lists, a step apart.
-fn fill(keys: &mut [u64; 16], lists: &mut [u8; 16], step: u8)
-    requires { Whole (entries keys lists) × (step < 16) }
-    ensures { Heap (entries_after keys lists) 16 }
+// A heap of the sixteen lists, pushed a step apart.
+fn filled(step: u8) -> Heap
+    requires { step < 16 }
+    ensures { result.len ≡ 16 }
 {
-    let mut list: u8 = 0;
-    let mut len: usize = 0;
-    while len < 16 {
-        push(keys, lists, len, key(list), list);
-        list = (list + step) % 16;
-        len += 1;
+    let mut heap = Heap::new();
+    for i in 0..16 {
+        let list = i * step % 16;
+        heap.push(Entry {
+            key: key(list),
+            list,
+        });
     }
+    heap
 }
 
 // Pops all, and writes their letters.
-fn drain(keys: &mut [u64; 16], lists: &mut [u8; 16], text: &mut [u8; 17])
-    requires { Heap (entries keys lists) 16 }
-{
-    let mut len: usize = 16;
-    while len > 0 {
-        text[16 - len] = letter(lists[0]);
-        pop(keys, lists, len);
-        len -= 1;
+fn drain(rt: &impl Print, heap: &mut Heap) -> io::Result<()> {
+    while let Some(least) = heap.top() {
+        print!(rt; "{}", letter(least.list))?;
+        heap.pop();
     }
+    println!(rt; "")
 }
 
 // Replaces the top sixteen times, by entries in the middle, and writes the letters of those replaced.
-fn turn(keys: &mut [u64; 16], lists: &mut [u8; 16], text: &mut [u8; 17])
-    requires { Heap (entries keys lists) 16 }
-    ensures { Heap (entries_after keys lists) 16 }
-{
-    let mut list: u8 = 16;
-    while list < 32 {
-        text[list as usize - 16] = letter(lists[0]);
-        replace_top(keys, lists, 16, 40, list);
-        list += 1;
+fn turn(rt: &impl Print, heap: &mut Heap) -> io::Result<()> {
+    for list in 16..32 {
+        if let Some(least) = heap.top() {
+            print!(rt; "{}", letter(least.list))?;
+            heap.replace_top(Entry { key: 40, list });
+        }
     }
+    println!(rt; "")
 }
 
-fn empties(step: u8)
+fn turns(rt: &impl Print, step: u8) -> io::Result<()>
     requires { step < 16 }
 {
-    let mut keys: [u64; 16] = [0; 16];
-    let mut lists: [u8; 16] = [0; 16];
-    let mut text: [u8; 17] = [b'\n'; 17];
-    fill(&mut keys, &mut lists, step);
-    drain(&mut keys, &mut lists, &mut text);
-    say(&text);
+    let mut heap = filled(step);
+    turn(rt, &mut heap)?;
+    drain(rt, &mut heap)
 }
 
-fn turns(step: u8)
-    requires { step < 16 }
-{
-    let mut keys: [u64; 16] = [0; 16];
-    let mut lists: [u8; 16] = [0; 16];
-    let mut text: [u8; 17] = [b'\n'; 17];
-    fill(&mut keys, &mut lists, step);
-    turn(&mut keys, &mut lists, &mut text);
-    say(&text);
-    drain(&mut keys, &mut lists, &mut text);
-    say(&text);
-}
-
-fn main() {
-    empties(1);
-    empties(15);
-    empties(5);
-    empties(11);
-    turns(7);
+fn main(rt: HostRuntime) -> io::Result<()> {
+    for step in [1, 15, 5, 11] {
+        drain(&rt, &mut filled(step))?;
+    }
+    turns(&rt, 7)
 }

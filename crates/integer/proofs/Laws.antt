@@ -10,9 +10,10 @@ use borrow.Author.Tests.{lt-ltb, le-ltb, ltb-true, ltb-false, eqb-true, eqb-fals
 use mir.Syntax.{Width as Bits, w32, w64}
 use mir.Val.{SFits, hbits, of_z, to_z}
 use mir.ValLaws.{to_z-of_z}
-use Rattle.rules.specs.Lists.{Width, seats, instants, key64, point64}
+use Rattle.rules.specs.Lists.{Width, key64}
 use Rattle.integer.specs.Order.{Less, Same}
 use Rattle.integer.specs.Faithful.{Faithful}
+pub use Rattle.integer.specs.Widths.{faithful_seats, faithful_instants}
 
 -- two tests of order agree where the facts that they decide do
 same_order : (a b c d : ℕ) → (a < b → c < d) → (b ≤ a → d ≤ c) → ltb a b ≡ ltb c d
@@ -25,29 +26,6 @@ same_order a b c d f g = go (ltb a b) refl where
 module _ {P : Type 0} {w : Width P} {Fits : P → Type 0} (f : Faithful w Fits) where
   pub same_point : (a b : P) → Fits a → Fits b → w.key a ≡ w.key b → a ≡ b
   same_point a b fa fb e = sym (f.point_key a fa) ∙ ap w.point e ∙ f.point_key b fb
-
-pub faithful_seats : Faithful seats (λ a. a < 2 ^ 32)
-faithful_seats = record { key_point = λ k h. refl; point_key = λ a h. refl; below = λ a h. h }
-
-key_point : (k : ℕ) → k < 2 ^ 64 → key64 (point64 k) ≡ k
-unfolding key64 point64
-key_point k h = go (ltb k 9223372036854775808) refl where
-  go : (t : Bool) → ltb k 9223372036854775808 ≡ t → key64 (point64 k) ≡ k
-  go true e = rw e (omega (arith, ltb-true k _ e))
-  go false e = rw e (omega (arith, ltb-false k _ e))
-
-point_key : (a : ℤ) → mag a < 2 ^ 63 → point64 (key64 a) ≡ a
-unfolding key64 point64
-point_key (pos n) f = rw (le-ltb (9223372036854775808 + n) 9223372036854775808 (omega arith)) (ap pos (omega arith))
-point_key (negsuc n) f = rw (lt-ltb (9223372036854775807 - n) 9223372036854775808 (omega arith)) (ap negsuc (omega arith))
-
-below : (a : ℤ) → mag a < 2 ^ 63 → key64 a < 2 ^ 64
-unfolding key64
-below (pos n) f = omega arith
-below (negsuc n) f = omega arith
-
-pub faithful_instants : Faithful instants (λ a. mag a < 2 ^ 63)
-faithful_instants = record { key_point = key_point; point_key = point_key; below = below }
 
 -- a signed value that went through a local, as the logic has it
 pub back : (w : Bits) (a : ℤ) → mag a < 2 ^ hbits w → to_z w (of_z w a) ≡ a

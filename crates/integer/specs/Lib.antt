@@ -3,3 +3,4 @@ pub mod Order
 pub mod Next
 pub mod Faithful
 pub mod KeyAt
+pub mod Widths

@@ -7,9 +7,9 @@ ghost use Rattle.io.specs.Counts.{IsPrefixLen};
 ghost use Rattle.answer_text.specs.Buffer.{leaves, print};
 ghost use Rattle.printed.specs.Printed.{printed};
 
-use file_reader::{Contents, read_file};
+use file_reader::read_file;
 use join_text::perform;
-use tariff_file::{refusal_code, refusal_number};
+use rules::Lists;
 use text_rows::print_refusal;
 
 // Joins a tariff file, and puts the printed text at the front of the buffer. It answers the text's length; where the text does not
@@ -23,24 +23,20 @@ pub fn join_file(file: &[u8], text: &mut [u8]) -> usize
     let mut values: [i32; 2048] = [0; 2048];
     let mut counts: [u32; 16] = [0; 16];
     let contents = read_file(file, &mut starts, &mut ends, &mut values, &mut counts);
-    match contents {
-        Contents::Refused(refusal) => {
-            print_refusal(refusal_code(refusal), refusal_number(refusal), text)
-        }
-        Contents::Held(head) => {
-            let task = head.task;
-            let ranges = head.ranges;
+    let length = match contents {
+        Ok(contents) => {
+            let head = contents.head;
+            let ranges = contents.ranges;
             let lists = head.lists;
-            perform(
-                task,
-                head.operation,
-                head.combiner,
-                &starts[..ranges],
-                &ends[..ranges],
-                &values[..ranges],
-                &counts[..lists],
-                text,
-            )
+            let lent = Lists {
+                starts: &starts[..ranges],
+                ends: &ends[..ranges],
+                values: &values[..ranges],
+                counts: &counts[..lists],
+            };
+            perform(head.task, head.operation, head.combiner, lent, text)
         }
-    }
+        Err(refusal) => print_refusal(refusal.code(), refusal.number(), text),
+    };
+    length.unwrap_or(0)
 }

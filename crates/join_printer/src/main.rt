@@ -2,31 +2,15 @@
 
 #![tactic(auto)]
 
-ghost use Rattle.std.specs.Prelude.{◌≤◌, length, IfOk};
-
 use join_file::join_file;
-use std::io::{self, Read, Write};
+use read_full::read_full;
+use std::io::{self, Write};
 
 // A byte more than the longest file, so that a longer one is told.
 const MOST: usize = 45127;
 
 // Room for the longest text.
 const ROOM: usize = 249806;
-
-// Reads until the buffer is full or the input ends. Says how many bytes came.
-fn read_full<R: Read>(input: &mut R, buffer: &mut [u8]) -> io::Result<usize>
-    ensures { IfOk result (λ n. n ≤ length buffer.new) }
-{
-    let mut length = 0;
-    while length < buffer.len() {
-        let count = input.read(&mut buffer[length..])?;
-        if count == 0 {
-            break;
-        }
-        length += count;
-    }
-    Ok(length)
-}
 
 fn main(rt: HostRuntime) -> io::Result<()> {
     let mut file: [u8; MOST] = [0; MOST];

@@ -1,122 +1,162 @@
-// A join's sweep, after JoinSweep of the Rust, but for its columns and arrays: which lists begin and end with a stretch, where it
-// begins and how far it reaches.
+// A join's sweep, after JoinSweep of the Rust: the stretches on which the same lists are active with the same values, one after the
+// other.
 
 #![tactic(auto)]
 
-ghost use Rattle.std.specs.Prelude.{◌+◌, ◌≤◌};
-ghost use Rattle.join_sweep.specs.Stretches.{after, Begun, BegunAfter, EndsWith, StartsWith, Ahead, Reached};
+ghost use Rattle.std.specs.Prelude.{◌+◌, ◌*◌, ◌≤◌, ◌≡◌, List};
+ghost use Rattle.rules.specs.Piece as rules;
+ghost use Rattle.rules.specs.Lists.{held, lists};
+ghost use Rattle.rules.specs.Sweep.{events};
+ghost use Rattle.rules.specs.Refusals.{Formed};
+ghost use Rattle.rules.specs.declared.Kind.{Kind};
+ghost use Rattle.multiway_sweep.specs.Steps.{reads};
+ghost use Rattle.join_sweep.specs.Stretches.{next_of, end_of, EndsWith, StartsWith, Busy, Begun, BegunAfter, Ahead, Reached};
+ghost use Rattle.join_sweep.specs.Stretches.{Ready, Joining, Stands, Opened, Finds};
 
-use multiway_sweep::{Range, Sizes, Step};
+use integer::Integer;
+use multiway_sweep::{Event, Range, Sweep};
+use rules::Lists;
 
-// A join's sweep, but for its arrays: the held event, with the sizes of the heaps after it, and how many lists are active.
-#[derive(Clone, Copy)]
+// A sweep, of whose events one is held back; what the lists have on the last stretch, in sixteen places; how many of them are active;
+// and where that stretch ended.
+#[derive(Drop)]
 pub struct JoinSweep {
-    pub held: Step,
+    pub sweep: Sweep,
+    pub held: Option<Event>,
+    // Two arrays, as the combiners read them.
+    pub current: [i32; 16],
+    pub present: [bool; 16],
     pub active_count: usize,
+    pub last_end: Option<u64>,
 }
 
-// The end of the last stretch.
-#[derive(Clone, Copy)]
-pub enum LastEnd {
-    Nothing,
-    At(u64),
-}
-
-// The next stretch and the sweep at its end, or nothing is left.
-#[derive(Clone, Copy)]
-pub enum NextStretch {
-    Next(Range, JoinSweep),
-    Done,
-}
-
-// Where a stretch begins.
-#[derive(Clone, Copy)]
-pub enum Begin {
-    At(u64),
-    Nowhere,
-}
-
-// A list whose range ends, with the sizes of the heaps after that event; or the held event is none of the sort.
-#[derive(Clone, Copy)]
-pub enum Ended {
-    Of(usize, Sizes),
-    Nothing,
-}
-
-// A list whose range starts, with its value and the sizes of the heaps after that event; or the held event is none of the sort.
-#[derive(Clone, Copy)]
-pub enum Started {
-    Of(usize, i32, Sizes),
-    Nothing,
-}
-
-// The list whose range ended with the last stretch, where that is the held event.
-pub fn ending(held: Step, last_end: LastEnd) -> Ended
-    ensures { EndsWith held last_end result }
-{
-    let LastEnd::At(end) = last_end else {
-        return Ended::Nothing;
-    };
-    let Step::End(at, list, sizes) = held else {
-        return Ended::Nothing;
-    };
-    if at == end {
-        Ended::Of(list, sizes)
-    } else {
-        Ended::Nothing
+impl JoinSweep {
+    // The sweep over lists, before the first stretch.
+    pub fn new<P: Integer>(lent: Lists<P>) -> JoinSweep
+        requires { (k : Kind) × Formed P.width k (held lent) }
+        ensures { let l = held lent.entry in Ready P.width (reads l) result (events (lists P.width l)) }
+    {
+        let mut sweep = Sweep::new(lent);
+        let held = sweep.step(lent);
+        JoinSweep {
+            sweep,
+            held,
+            current: [0; 16],
+            present: [false; 16],
+            active_count: 0,
+            last_end: None,
+        }
     }
-}
 
-// The list whose range starts at a point, where that is the held event.
-pub fn starting(held: Step, start: u64) -> Started
-    ensures { StartsWith held start result }
-{
-    let Step::Start(range, list, value, sizes) = held else {
-        return Started::Nothing;
-    };
-    if range.start == start {
-        Started::Of(list, value, sizes)
-    } else {
-        Started::Nothing
+    // Advances to the next stretch: what ended with the last one is deactivated, what starts here is activated, and the stretch runs to
+    // the next event. The places then hold what the lists have on it.
+    pub fn next_stretch<P: Integer>(&mut self, lent: Lists<P>) -> Option<Range>
+        requires stands { Stands P.width (reads (held lent)) self.old (end_of self.old) }
+        requires within { next_of self.old ≤ P.width.points }
+        ensures { (ls : List (List rules.Range)) → Joining P.width (reads (held lent.entry)) ls self.old (end_of self.old) →
+            Finds P.width (reads (held lent.entry)) ls (next_of self.old) self.new result }
+    {
+        self.close(lent);
+        let start = self.begin_after(P::greatest_key())?;
+        self.open(start, lent);
+        let end = self.reach(start);
+        self.last_end = Some(end);
+        Some(Range { start, end })
     }
-}
 
-// With nothing active, a stretch begins at the next range's start; else at the first point after the last one.
-fn begin_from(sweep: JoinSweep, from: u64) -> Begin
-    ensures { Begun sweep from result }
-{
-    if 0 < sweep.active_count {
-        return Begin::At(from);
+    // Deactivates what ended with the last stretch.
+    fn close<P: Integer>(&mut self, lent: Lists<P>)
+        requires { Stands P.width (reads (held lent)) self.old (end_of self.old) }
+        ensures closed { (ls : List (List rules.Range)) → Joining P.width (reads (held lent.entry)) ls self.old (end_of self.old) →
+            Joining P.width (reads (held lent.entry)) ls self.new (2 * next_of self.new) }
+        ensures end { self.new.last_end ≡ self.old.last_end }
+    {
+        while let Some(list) = self.ending() {
+            self.present[list] = false;
+            self.active_count -= 1;
+            self.held = self.sweep.step(lent);
+        }
     }
-    let held = sweep.held;
-    let Step::Start(range, _, _, _) = held else {
-        return Begin::Nowhere;
-    };
-    Begin::At(range.start)
-}
 
-// Where the stretch after the last one begins. Every range ends at or before the greatest point, so nothing can follow it.
-pub fn begin_after(sweep: JoinSweep, last_end: LastEnd, greatest: u64) -> Begin
-    requires { after last_end ≤ greatest + 1 }
-    ensures { BegunAfter sweep last_end greatest result }
-{
-    let LastEnd::At(end) = last_end else {
-        return begin_from(sweep, 0);
-    };
-    if end < greatest {
-        return begin_from(sweep, end + 1);
+    // Activates what starts at a point.
+    fn open<P: Integer>(&mut self, start: u64, lent: Lists<P>)
+        requires busy { Busy start self.old }
+        requires stands { Stands P.width (reads (held lent)) self.old (2 * start) }
+        ensures { (ls : List (List rules.Range)) → Joining P.width (reads (held lent.entry)) ls self.old (2 * start) →
+            Opened P.width (reads (held lent.entry)) ls self.new start }
+    {
+        while let Some((list, value)) = self.starting(start) {
+            self.current[list] = value;
+            self.present[list] = true;
+            self.active_count += 1;
+            self.held = self.sweep.step(lent);
+        }
     }
-    Begin::Nowhere
-}
 
-// A stretch runs to the next event: an end, or just before a start.
-pub fn reach(held: Step, start: u64) -> u64
-    requires { Ahead start held }
-    ensures { Reached held result }
-{
-    match held {
-        Step::Start(range, _, _, _) => range.start - 1,
-        Step::End(at, _, _) => at,
-        Step::Done => start,
+    // The list whose range ended with the last stretch, where that is the held event.
+    pub fn ending(&self) -> Option<usize>
+        ensures { EndsWith self.now.held self.now.last_end result }
+    {
+        let Some(Event::End(at, list)) = self.held else {
+            return None;
+        };
+        if self.last_end == Some(at) {
+            Some(list)
+        } else {
+            None
+        }
+    }
+
+    // The list whose range starts at a point, with its value, where that is the held event.
+    pub fn starting(&self, start: u64) -> Option<(usize, i32)>
+        ensures { StartsWith self.now.held start result }
+    {
+        let Some(Event::Start(range, list, value)) = self.held else {
+            return None;
+        };
+        if range.start == start {
+            Some((list, value))
+        } else {
+            None
+        }
+    }
+
+    // With nothing active, a stretch begins at the next range's start; else at the first point after the last one.
+    fn begin_from(&self, from: u64) -> Option<u64>
+        ensures { Begun self.now from result }
+    {
+        if 0 < self.active_count {
+            return Some(from);
+        }
+        let Some(Event::Start(range, _, _)) = self.held else {
+            return None;
+        };
+        Some(range.start)
+    }
+
+    // Where the stretch after the last one begins. Every range ends at or before the greatest point, so nothing can follow it.
+    pub fn begin_after(&self, greatest: u64) -> Option<u64>
+        requires { next_of self.now ≤ greatest + 1 }
+        ensures { BegunAfter self.now greatest result }
+    {
+        let Some(end) = self.last_end else {
+            return self.begin_from(0);
+        };
+        if end < greatest {
+            return self.begin_from(end + 1);
+        }
+        None
+    }
+
+    // A stretch runs to the next event: an end, or just before a start.
+    pub fn reach(&self, start: u64) -> u64
+        requires { Ahead start self.now.held }
+        ensures { Reached self.now.held result }
+    {
+        match self.held {
+            Some(Event::Start(range, _, _)) => range.start - 1,
+            Some(Event::End(at, _)) => at,
+            None => start,
+        }
     }
 }

@@ -1,33 +1,30 @@
-// Lists of a tariff file joined and printed: lent lists in, the text of the answer into a lent buffer, its length back.
+// Lists of a tariff file joined and printed: lent lists in, the text of the answer into a lent buffer, its length back where it fits.
 
 #![tactic(auto)]
 
 ghost use Rattle.std.specs.Prelude.{◌≡◌};
-ghost use Rattle.rules.specs.Lists.{given};
+ghost use Rattle.rules.specs.Lists.{held};
 ghost use Rattle.answer_text.specs.Answers.{answer};
-ghost use Rattle.answer_text.specs.Buffer.{leaves, print};
+ghost use Rattle.answer_text.specs.Buffer.{tries, attempt};
 ghost use Rattle.printed.specs.Printed.{head, paired_answer, merged_answer, performed};
 
 use many_way_rules::Operation;
-use multiway_merge_instant::merge_lists;
-use rules::{Pairing, code, number};
+use multiway_merge::merge_lists;
+use rules::{Lists, Pairing};
 use tariff_file::Task;
-use text_rows::{print_merged, print_paired, print_refusal};
-use two_way_join_instant::join_lists;
+use text_pairs::Pairs;
+use text_rows::{Header, Rows, print_merged, print_paired, print_refusal};
+use two_way_join::join_lists;
 
 // Joins two lists as asked, and prints the pieces or the refusal.
 fn join_pairs(
     how: Pairing,
     operation: u8,
     combiner: u8,
-    starts: &[i64],
-    ends: &[i64],
-    values: &[i32],
-    counts: &[u32],
+    lent: Lists<i64>,
     text: &mut [u8],
-) -> usize
-    ensures { leaves result text.new
-        ≡ print (answer (paired_answer (head operation combiner) how (given starts ends values counts))) text.old }
+) -> Option<usize>
+    ensures { tries result text.new ≡ attempt (answer (paired_answer (head operation combiner) how (held lent.entry))) text.old }
 {
     let mut out_start: [i64; 4095] = [0; 4095];
     let mut out_end: [i64; 4095] = [0; 4095];
@@ -36,32 +33,32 @@ fn join_pairs(
     let mut out_presence: [u8; 4095] = [0; 4095];
     let answer = join_lists(
         how,
-        starts,
-        ends,
-        values,
-        counts,
+        lent,
         &mut out_start,
         &mut out_end,
         &mut out_left,
         &mut out_right,
         &mut out_presence,
     );
-    let found = code(answer);
-    if found != 0 {
-        return print_refusal(found, number(answer), text);
+    match answer {
+        Ok(pieces) => {
+            let header = Header {
+                operation,
+                combiner,
+                lists: lent.counts.len(),
+                pieces,
+            };
+            let pairs = Pairs {
+                start: &out_start,
+                end: &out_end,
+                left: &out_left,
+                right: &out_right,
+                presence: &out_presence,
+            };
+            print_paired(header, pairs, text)
+        }
+        Err(refusal) => print_refusal(refusal.code(), refusal.number(), text),
     }
-    print_paired(
-        operation,
-        combiner,
-        counts.len(),
-        &out_start,
-        &out_end,
-        &out_left,
-        &out_right,
-        &out_presence,
-        number(answer),
-        text,
-    )
 }
 
 // Merges lists as asked, and prints the pieces or the refusal.
@@ -69,69 +66,53 @@ fn join_many(
     how: Operation,
     operation: u8,
     combiner: u8,
-    starts: &[i64],
-    ends: &[i64],
-    values: &[i32],
-    counts: &[u32],
+    lent: Lists<i64>,
     text: &mut [u8],
-) -> usize
-    ensures { leaves result text.new
-        ≡ print (answer (merged_answer (head operation combiner) how (given starts ends values counts))) text.old }
+) -> Option<usize>
+    ensures { tries result text.new ≡ attempt (answer (merged_answer (head operation combiner) how (held lent.entry))) text.old }
 {
     let mut out_start: [i64; 4095] = [0; 4095];
     let mut out_end: [i64; 4095] = [0; 4095];
     let mut out_value: [i64; 4095] = [0; 4095];
-    let answer = merge_lists(
-        how,
-        starts,
-        ends,
-        values,
-        counts,
-        &mut out_start,
-        &mut out_end,
-        &mut out_value,
-    );
-    let found = code(answer);
-    if found != 0 {
-        return print_refusal(found, number(answer), text);
+    let answer = merge_lists(how, lent, &mut out_start, &mut out_end, &mut out_value);
+    match answer {
+        Ok(pieces) => {
+            let header = Header {
+                operation,
+                combiner,
+                lists: lent.counts.len(),
+                pieces,
+            };
+            let rows = Rows {
+                start: &out_start,
+                end: &out_end,
+                value: &out_value,
+            };
+            print_merged(header, rows, text)
+        }
+        Err(refusal) => print_refusal(refusal.code(), refusal.number(), text),
     }
-    print_merged(
-        operation,
-        combiner,
-        counts.len(),
-        &out_start,
-        &out_end,
-        &out_value,
-        number(answer),
-        text,
-    )
 }
 
-// Does what a head asks for with the lists, and prints what comes of it.
+// Does what a head asks for with the lists, and prints what comes of it. There is no length where the text does not fit.
 pub fn perform(
     task: Task,
     operation: u8,
     combiner: u8,
-    starts: &[i64],
-    ends: &[i64],
-    values: &[i32],
-    counts: &[u32],
+    lent: Lists<i64>,
     text: &mut [u8],
-) -> usize
-    ensures { leaves result text.new
-        ≡ print (answer (performed (head operation combiner) task (given starts ends values counts))) text.old }
+) -> Option<usize>
+    ensures { tries result text.new ≡ attempt (answer (performed (head operation combiner) task (held lent.entry))) text.old }
 {
     match task {
-        Task::Pair(how) => {
-            join_pairs(how, operation, combiner, starts, ends, values, counts, text)
-        }
+        Task::Pair(how) => join_pairs(how, operation, combiner, lent, text),
         Task::Merge(admission) => {
             let how = Operation::Join(admission, combiner);
-            join_many(how, operation, combiner, starts, ends, values, counts, text)
+            join_many(how, operation, combiner, lent, text)
         }
         Task::Choose(pick, admission) => {
             let how = Operation::Select(pick, admission);
-            join_many(how, operation, combiner, starts, ends, values, counts, text)
+            join_many(how, operation, combiner, lent, text)
         }
     }
 }

@@ -2,7 +2,7 @@
 use Prim.Native.Nat.{ℕ, ◌*◌, ◌-◌, ◌≤◌, ◌<◌}
 use mathlib.Core.Path.{◌≡◌, refl}
 use mathlib.Core.Bool.{false}
-use mathlib.Core.Option.{none}
+use Rattle.std.specs.declared.option.Option.TheVariants.{None}
 use mathlib.Core.List.{List, [], ◌∷◌}
 use native.Mathlib.Omega.{arith}
 use lib.ListN.{length}
@@ -27,7 +27,7 @@ nothing_admitted Any l (k ∷ ls) = nothing_admitted Any k ls
 nothing_admitted Odd l [] = refl
 nothing_admitted Odd l (k ∷ ls) = nothing_admitted Odd k ls
 
-pub rule_nones : (o : Operation) (l : List Range) (ls : List (List Range)) → rule_of o (nones (l ∷ ls)) ≡ none
+pub rule_nones : (o : Operation) (l : List Range) (ls : List (List Range)) → rule_of o (nones (l ∷ ls)) ≡ None
 rule_nones o l ls = rw (nothing_admitted (admission o) l ls)
 
 pub merged_room : (o : Operation) (n : ℕ) (ls : List (List Range)) → AllWellFormed n ls → 1 ≤ size ls → length (merged o n ls) ≤ 2 * size ls - 1

@@ -1,6 +1,7 @@
 -- The numbered combiners over the values of the lists present. Over no values each gives 0. Assumes nothing.
 use Rattle.std.specs.Prelude.{ℕ, Bool, cond, ◌&&◌, List, [], ◌∷◌, ltb, leb, ℤ, pos, ◌+ℤ◌, length, get_or}
-use Rattle.std.proofs.Math.Option.{Option, none, some}
+use Rattle.std.specs.declared.option.Option.{Option}
+use Rattle.std.specs.declared.option.Option.TheVariants.{None, Some}
 use Rattle.std.specs.Int.Signed.{le_z, quot_z}
 
 abbrev pub sum_of : List ℤ → ℤ
@@ -24,7 +25,7 @@ mean (v ∷ vs) = quot_z (sum_of (v ∷ vs)) (pos (length (v ∷ vs)))
 
 -- by its number a combiner's answer over the values present; no other number has one
 abbrev pub combine : ℕ → List ℤ → Option ℤ
-combine c vs = get_or (none ∷ some (sum_of vs) ∷ some (largest vs) ∷ some (smallest vs) ∷ some (pos (length vs)) ∷ some (mean vs) ∷ []) c none
+combine c vs = get_or (None ∷ Some (sum_of vs) ∷ Some (largest vs) ∷ Some (smallest vs) ∷ Some (pos (length vs)) ∷ Some (mean vs) ∷ []) c None
 
 -- the number of the last combiner; the first is 1
 abbrev pub last_combiner : ℕ

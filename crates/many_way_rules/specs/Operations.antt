@@ -1,6 +1,7 @@
 -- Many-way joins and selections as point rules: which points an operation admits, and with which value. Assumes nothing.
 use Rattle.std.specs.Prelude.{ℕ, cond, List, ℤ}
-use Rattle.std.proofs.Math.Option.{Option, none}
+use Rattle.std.specs.declared.option.Option.{Option}
+use Rattle.std.specs.declared.option.Option.TheVariants.{None}
 use Rattle.rules.specs.Piece.{Range, present}
 use Rattle.rules.specs.Same.{eq_ℤ}
 use Rattle.rules.specs.Runs.{runs}
@@ -41,7 +42,7 @@ value_of (Join a c) os = combine c (present os)
 value_of (Select p a) os = picked p os
 
 abbrev pub rule_of : Operation → List (Option ℤ) → Option ℤ
-rule_of o os = cond (admitted (admission o) os) (value_of o os) none
+rule_of o os = cond (admitted (admission o) os) (value_of o os) None
 
 -- the pieces of a many-way join or selection over n points
 unfoldable pub merged : Operation → ℕ → List (List Range) → List Range

@@ -1,6 +1,7 @@
 -- Which points are admitted by what the lists have there, and which of the lists present a selection takes. Assumes nothing.
 use Rattle.std.specs.Prelude.{Bool, true, false, cond, not, ◌&&◌, ◌||◌, List, [], ◌∷◌}
-use Rattle.std.proofs.Math.Option.{Option, none}
+use Rattle.std.specs.declared.option.Option.{Option}
+use Rattle.std.specs.declared.option.Option.TheVariants.{None}
 use Rattle.rules.specs.Piece.{there}
 use Rattle.many_way_rules.specs.declared.Admission.{Admission}
 use Rattle.many_way_rules.specs.declared.Admission.TheVariants.{Every, Any, Odd}
@@ -27,7 +28,7 @@ module _ {A : Type 0} where
 
   -- what the last list has that is present
   abbrev pub highest : List (Option A) → Option A
-  highest [] = none
+  highest [] = None
   highest (o ∷ os) = let later = highest os in cond (there later) later o
 
   abbrev pub picked : Pick → List (Option A) → Option A

@@ -1,13 +1,15 @@
 -- The boundary sheet's proved rows: what each operation is to write, beside what it writes. Assumes nothing.
 use Rattle.std.specs.Prelude.{ℕ, List, [], ◌∷◌, ◌++◌, map, ℤ, pos, negsuc, length, replicate}
-use Rattle.std.proofs.Math.Option.{Option, none, some}
+use Rattle.std.specs.declared.option.Option.{Option}
+use Rattle.std.specs.declared.option.Option.TheVariants.{None, Some}
+use Rattle.std.specs.declared.result.Result.TheVariants.{Ok, Err}
 use Rattle.rules.specs.Lists.{Width, Lent, seats, instants}
 use Rattle.rules.specs.Answer.{Outcome}
 use Rattle.rules.specs.Merged.{Merged}
 use Rattle.rules.specs.Paired.{Paired}
 use Rattle.rules.specs.Listed.{Listed}
 use Rattle.rules.specs.Outcomes.{pairing, listing}
-use Rattle.rules.specs.declared.Answer.TheVariants.{Done, Backward, Overlap, NoRoom}
+use Rattle.rules.specs.declared.Refusal.TheVariants.{Backward, Overlap, NoRoom}
 use Rattle.rules.specs.declared.Pairing.{Pairing}
 use Rattle.rules.specs.declared.Pairing.TheVariants.{Inner, Left, Full}
 use Rattle.many_way_rules.specs.Operations.{inner, full, union, symmetric_difference}
@@ -33,14 +35,14 @@ lend ls = record { starts = map (λ x. x.start) (flat ls); ends = map (λ x. x.e
 
 -- what is shown of a side: its value, or none, which is written as 0
 abbrev pub shown : Option ℤ → ℤ
-shown none = pos 0
-shown (some v) = v
+shown None = pos 0
+shown (Some v) = v
 
 abbrev pub bits : Option ℤ × Option ℤ → ℕ
-bits (none, none) = 0
-bits (some v, none) = 1
-bits (none, some v) = 2
-bits (some v, some u) = 3
+bits (None, None) = 0
+bits (Some v, None) = 1
+bits (None, Some v) = 2
+bits (Some v, Some u) = 3
 
 pub data Result (P : Type 0) : Type 0 where
   merges : Outcome (Merged P) → Result P
@@ -69,7 +71,7 @@ module _ {P : Type 0} (w : Width P) where
       let n = length xs in
       let blank = replicate n (w.point 0) in
       merge_into o ls (record { start = blank; end = blank; value = replicate n (pos 0) })
-      (record { answer = Done n; columns = record { start = map (λ x. x.start) xs; end = map (λ x. x.end) xs; value = map (λ x. x.value) xs } })
+      (record { answer = Ok n; columns = record { start = map (λ x. x.start) xs; end = map (λ x. x.end) xs; value = map (λ x. x.value) xs } })
 
   abbrev pub pair_row : Pairing → List (Tariff P) → List (Typed P (Option ℤ × Option ℤ)) → Row P
   pair_row o ls xs =
@@ -77,7 +79,7 @@ module _ {P : Type 0} (w : Width P) where
       let blank = replicate n (w.point 0) in
       let zeros = replicate n (pos 0) in
       pair_into o ls (record { start = blank; end = blank; left = zeros; right = zeros; presence = replicate n 0 })
-      (record { answer = Done n; columns = record { start = map (λ x. x.start) xs; end = map (λ x. x.end) xs; left = map (λ x. shown x.value.0) xs; right = map (λ x. shown x.value.1) xs; presence = map (λ x. bits x.value) xs } })
+      (record { answer = Ok n; columns = record { start = map (λ x. x.start) xs; end = map (λ x. x.end) xs; left = map (λ x. shown x.value.0) xs; right = map (λ x. shown x.value.1) xs; presence = map (λ x. bits x.value) xs } })
 
   -- the rows of a width whose points have the numbers `at`, from the least to the greatest
   module _ (at : ℕ → P) (least greatest : P) where
@@ -105,10 +107,10 @@ module _ {P : Type 0} (w : Width P) where
 
     abbrev pub rows : List (Row P)
     rows =
-        pair_row Inner one_in_two (typed 3 4 (some (pos 100), some (pos 7)) ∷ typed 5 6 (some (pos 100), some (pos 7)) ∷ [])
+        pair_row Inner one_in_two (typed 3 4 (Some (pos 100), Some (pos 7)) ∷ typed 5 6 (Some (pos 100), Some (pos 7)) ∷ [])
         ∷ merge_row (inner 1) one_in_two (typed 3 6 (pos 107) ∷ [])
-        ∷ pair_row Left one_in_two (typed 1 2 (some (pos 100), none) ∷ typed 3 4 (some (pos 100), some (pos 7)) ∷ typed 5 6 (some (pos 100), some (pos 7)) ∷ typed 7 10 (some (pos 100), none) ∷ [])
-        ∷ pair_row Full shared_end (typed 1 4 (some (pos 100), none) ∷ typed 5 5 (some (pos 100), some (pos 20)) ∷ typed 6 9 (none, some (pos 20)) ∷ [])
+        ∷ pair_row Left one_in_two (typed 1 2 (Some (pos 100), None) ∷ typed 3 4 (Some (pos 100), Some (pos 7)) ∷ typed 5 6 (Some (pos 100), Some (pos 7)) ∷ typed 7 10 (Some (pos 100), None) ∷ [])
+        ∷ pair_row Full shared_end (typed 1 4 (Some (pos 100), None) ∷ typed 5 5 (Some (pos 100), Some (pos 20)) ∷ typed 6 9 (None, Some (pos 20)) ∷ [])
         ∷ merge_row union shared_end (typed 1 4 (pos 100) ∷ typed 5 9 (pos 20) ∷ [])
         ∷ merge_row symmetric_difference shared_end (typed 1 4 (pos 100) ∷ typed 6 9 (pos 20) ∷ [])
         ∷ merge_row (inner 1) ((typed 1 5 (pos 10) ∷ typed 6 9 (pos 11) ∷ []) ∷ (typed 1 9 (pos 1) ∷ []) ∷ []) (typed 1 5 (pos 11) ∷ typed 6 9 (pos 12) ∷ [])
@@ -121,15 +123,15 @@ module _ {P : Type 0} (w : Width P) where
         -- the events of a shared end, and what later places had
         ∷ list_into shared_end list_columns
         (record {
-          answer = Done 4;
+          answer = Ok 4;
           columns = record { kind = 0 ∷ 0 ∷ 1 ∷ 1 ∷ 6 ∷ []; point = at 1 ∷ at 5 ∷ at 5 ∷ at 9 ∷ at 9 ∷ []; list = 0 ∷ 1 ∷ 0 ∷ 1 ∷ 11 ∷ 12 ∷ []; value = pos 100 ∷ pos 20 ∷ pos 0 ∷ pos 0 ∷ [] };
         })
         ∷ merge_into union shared_end merge_columns
-        (record { answer = Done 2; columns = record { start = at 1 ∷ at 5 ∷ at 8 ∷ at 9 ∷ []; end = at 4 ∷ at 9 ∷ at 9 ∷ []; value = pos 100 ∷ pos 20 ∷ pos 3 ∷ pos 4 ∷ pos 5 ∷ [] } })
+        (record { answer = Ok 2; columns = record { start = at 1 ∷ at 5 ∷ at 8 ∷ at 9 ∷ []; end = at 4 ∷ at 9 ∷ at 9 ∷ []; value = pos 100 ∷ pos 20 ∷ pos 3 ∷ pos 4 ∷ pos 5 ∷ [] } })
         -- refusals leave every column
-        ∷ pair_into Full shared_end pair_columns (record { answer = NoRoom 3; columns = pair_columns })
-        ∷ list_into ((typed 1 5 (pos 1) ∷ typed 3 2 (pos 1) ∷ []) ∷ []) list_columns (record { answer = Backward 1; columns = list_columns })
-        ∷ merge_into (full 1) ((typed 1 5 (pos 1) ∷ typed 5 9 (pos 1) ∷ []) ∷ []) merge_columns (record { answer = Overlap 1; columns = merge_columns })
+        ∷ pair_into Full shared_end pair_columns (record { answer = Err (NoRoom 3); columns = pair_columns })
+        ∷ list_into ((typed 1 5 (pos 1) ∷ typed 3 2 (pos 1) ∷ []) ∷ []) list_columns (record { answer = Err (Backward 1); columns = list_columns })
+        ∷ merge_into (full 1) ((typed 1 5 (pos 1) ∷ typed 5 9 (pos 1) ∷ []) ∷ []) merge_columns (record { answer = Err (Overlap 1); columns = merge_columns })
         ∷ []
 
 abbrev pub seat : ℕ → ℕ → ℤ → Typed ℕ ℤ

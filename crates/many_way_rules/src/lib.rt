@@ -6,7 +6,7 @@ ghost use Rattle.std.specs.Prelude.{◌≡◌};
 ghost use Rattle.many_way_rules.specs.Combiners as rules;
 
 // Which points are admitted: those in every list, in at least one, or in an odd number of them.
-#[derive(Clone, Copy)]
+#[derive(Clone, Copy, Debug, PartialEq, Eq)]
 pub enum Admission {
     Every,
     Any,
@@ -14,13 +14,13 @@ pub enum Admission {
 }
 
 // Which of the lists present is selected.
-#[derive(Clone, Copy)]
+#[derive(Clone, Copy, Debug, PartialEq, Eq)]
 pub enum Pick {
     Highest,
 }
 
 // A join combines the values of the lists present, by the number of its combiner; a selection takes the value of one.
-#[derive(Clone, Copy)]
+#[derive(Clone, Copy, Debug, PartialEq, Eq)]
 pub enum Operation {
     Join(Admission, u8),
     Select(Pick, Admission),
@@ -33,5 +33,5 @@ pub const LAST_COMBINER: u8 = 5;
 pub fn known(combiner: u8) -> bool
     ensures { result ≡ rules.known combiner }
 {
-    (0 < combiner) & (combiner <= LAST_COMBINER)
+    (1..=LAST_COMBINER).contains(&combiner)
 }

@@ -2,6 +2,7 @@
 use Prim.Native.Nat.{ℕ, ◌+◌, ◌≤◌, ◌<◌}
 use mathlib.Core.Path.{◌≡◌, refl, sym, ap, ◌∙◌}
 use mathlib.Core.Logic.{◌↔◌}
+use Rattle.std.specs.declared.result.Result.TheVariants.{Ok, Err}
 use mathlib.Core.List.{List, [], ◌∷◌, ◌++◌, map}
 use native.Mathlib.Omega.{arith}
 use lib.ListN.{length, get_or, take, drop, length-map}
@@ -9,12 +10,9 @@ use lib.Seq.{take_at}
 use Rattle.integer.specs.Faithful.{Faithful}
 use Rattle.rules.specs.Piece.{Range, column, Within, AllWellFormed}
 use Rattle.rules.specs.Lists.{Width, Lent, lists}
-use Rattle.rules.specs.Answer.{Outcome, judge, settle, front, leaves}
+use Rattle.rules.specs.Answer.{Judgement, Outcome, judge, settle, front, leaves}
 use Rattle.rules.specs.Merged.{Merged, room, lay}
 use Rattle.rules.specs.Refusals.{turn}
-use Rattle.rules.specs.declared.Answer.TheVariants.{Done}
-use Rattle.rules.specs.declared.Judgement.{Judgement}
-use Rattle.rules.specs.declared.Judgement.TheVariants.{Sound, Refused}
 use Rattle.rules.proofs.At.{within_le}
 use Rattle.rules.proofs.Refusals.{given, done_writes, refused_early, sound_formed, lists_formed}
 use Rattle.many_way_rules.specs.Operations.{full, union, kind_of, rule_of, merged}
@@ -59,22 +57,22 @@ module _ {P : Type 0} {Fits : P → Type 0} {w : Width P} (f : Faithful w Fits) 
 
   -- a call that was done: what its contract says, with ends that are points of the width
   pub record Call (o : Operation) (l : Lent P) (c d : Merged P) (n : ℕ) : Type 0 where
-    pub outcome : leaves (Done n) d ≡ merging w o l c
+    pub outcome : leaves (Ok n) d ≡ merging w o l c
     pub ends_fit : (i : ℕ) → i < length l.ends → Fits (get_or l.ends i (w.point 0))
 
   module _ {o : Operation} {l : Lent P} {c d : Merged P} {n : ℕ} (k : Call o l c d n) where
     abbrev pub pieces : List Range
     pieces = merged o w.points (lists w l)
 
-    done : settle (judge w (kind_of o) l) (length pieces) (room c) c (lay w 0 pieces c) ≡ leaves (Done n) d
+    done : settle (judge w (kind_of o) l) (length pieces) (room c) c (lay w 0 pieces c) ≡ leaves (Ok n) d
     unfolding merging
     done = sym k.outcome
 
-    answers : (settle (judge w (kind_of o) l) (length pieces) (room c) c (lay w 0 pieces c)).answer ≡ Done n
+    answers : (settle (judge w (kind_of o) l) (length pieces) (room c) c (lay w 0 pieces c)).answer ≡ Ok n
     answers = ap (λ (r : Outcome (Merged P)). r.answer) done
 
     pub counted : n ≡ length pieces
-    counted = ((given w (kind_of o) l (length pieces) (room c) c (lay w 0 pieces c) (Done n)).0 answers).0
+    counted = ((given w (kind_of o) l (length pieces) (room c) c (lay w 0 pieces c) (Ok n)).0 answers).0
 
     pub laid : d ≡ lay w 0 pieces c
     laid = ap (λ (r : Outcome (Merged P)). r.columns) (sym done) ∙ done_writes w (kind_of o) l (length pieces) (room c) c (lay w 0 pieces c) n answers
@@ -82,12 +80,12 @@ module _ {P : Type 0} {Fits : P → Type 0} {w : Width P} (f : Faithful w Fits) 
     rows_are : written n d ≡ rows pieces
     rows_are = rw (counted, laid) (λ i. record { start = take_front (λ x. w.point x.start) pieces c.start i; end = take_front (λ x. w.point x.end) pieces c.end i; value = take_front (λ x. x.value) pieces c.value i })
 
-    sound : judge w (kind_of o) l ≡ Sound
+    sound : judge w (kind_of o) l ≡ Ok tt
     sound = go (judge w (kind_of o) l) refl answers
       where
-        go : (j : Judgement) → judge w (kind_of o) l ≡ j → (settle j (length pieces) (room c) c (lay w 0 pieces c)).answer ≡ Done n → judge w (kind_of o) l ≡ Sound
-        go Sound q e = q
-        go (Refused a) q e = absurd (omega (arith, refused_early w (kind_of o) l 0 0 a q, ap turn e))
+        go : (j : Judgement) → judge w (kind_of o) l ≡ j → (settle j (length pieces) (room c) c (lay w 0 pieces c)).answer ≡ Ok n → judge w (kind_of o) l ≡ Ok tt
+        go (Ok u) q e = q
+        go (Err a) q e = absurd (omega (arith, refused_early w (kind_of o) l 0 0 a q, ap turn e))
 
     pub formed : AllWellFormed w.points (lists w l)
     formed = lists_formed (sound_formed w (kind_of o) l (λ i h. f.below _ (k.ends_fit i h)) sound)

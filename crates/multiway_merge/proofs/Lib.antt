@@ -1,3 +1,2 @@
--- The laws of many-way joins and selections: selections among the operations, and from the form checker's judgement to the outcome.
-pub mod Operations
+-- The laws of many-way joins and selections: from the form checker's judgement to the outcome.
 pub mod Outcomes

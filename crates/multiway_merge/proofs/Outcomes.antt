@@ -2,7 +2,9 @@
 use Prim.Native.Nat.{ℕ, pred, ◌+◌, ◌*◌, ◌-◌, ◌≤◌, ◌<◌}
 use mathlib.Core.Path.{◌≡◌, refl, sym, ap, ◌∙◌}
 use mathlib.Core.Bool.{Bool, true, false}
-use mathlib.Core.Option.{none, some}
+use Rattle.std.specs.declared.option.Option.{Option}
+use Rattle.std.specs.declared.option.Option.TheVariants.{None, Some}
+use Rattle.std.specs.declared.result.Result.TheVariants.{Ok, Err}
 use mathlib.Core.List.{List, [], ◌∷◌}
 use native.Mathlib.Omega.{arith}
 use lib.Dec.{leb}
@@ -11,23 +13,19 @@ use lib.ListN.{length, get_or}
 use borrow.Author.Tests.{le-leb, lt-leb}
 use Rattle.rules.specs.Piece.{Range}
 use Rattle.rules.specs.Lists.{Width, Lent, keys, cut, lists}
-use Rattle.rules.specs.Answer.{leaves}
+use Rattle.rules.specs.Answer.{Answer, leaves}
 use Rattle.rules.specs.Refusals.{Formed}
 use Rattle.rules.specs.Same.{eq_ℤ}
 use Rattle.rules.specs.Merged.{Merged, lengths, room, lay}
 use Rattle.rules.specs.Proving.Long.{Long}
-use Rattle.rules.specs.declared.Answer.{Answer}
-use Rattle.rules.specs.declared.Answer.TheVariants.{Done, NoRoom}
-use Rattle.rules.specs.declared.Judgement.{Judgement}
-use Rattle.rules.specs.declared.Judgement.TheVariants.{Sound, Refused}
+use Rattle.rules.specs.declared.Refusal.{Refusal}
+use Rattle.rules.specs.declared.Refusal.TheVariants.{NoRoom}
 use Rattle.rules.specs.declared.Kind.{Kind}
 use Rattle.rules.proofs.Columns.{lists_length, lists_size}
 use Rattle.rules.proofs.Refusals.{formed_sound, lists_formed}
 use Rattle.rules.proofs.Room.{runs_room}
 use Rattle.rules.proofs.Same.{decides_ℤ}
 use Rattle.passes.specs.Conclusion.{concluded}
-use Rattle.passes.specs.declared.Conclusion.{Conclusion}
-use Rattle.passes.specs.declared.Conclusion.TheVariants.{Answered, Again}
 use Rattle.passes.proofs.Turns.{Turn, turn_first, turn_answered, turn_again}
 use Rattle.form.specs.Shape.{Judged}
 use Rattle.many_way_rules.specs.Operations.{kind_of, rule_of, merged}
@@ -58,15 +56,15 @@ no_lists w l = go l.counts
     go (n ∷ ns) e = absurd (omega arith)
 
 -- the lists are judged for an operation
-module _ {P : Type 0} {w : Width P} {l : Lent P} {k : Kind} {r : Judgement} (o : Operation) (e : k ≡ kind_of o) (j : Judged w k l r) where
+module _ {P : Type 0} {w : Width P} {l : Lent P} {k : Kind} (o : Operation) (e : k ≡ kind_of o) where
   -- what is refused leaves the columns
-  pub refused : {a : Answer} {c : Merged P} → r ≡ Refused a → leaves a c ≡ merging w o l c
+  pub refused : {a : Refusal} {c : Merged P} → Judged w k l (Err a) → leaves (Err a) c ≡ merging w o l c
   unfolding merging
-  refused q = let h = sym j.is ∙ q in rw (← e, h)
+  refused j = rw (← e, sym j.is)
 
-  module _ (s : r ≡ Sound) where
+  module _ (j : Judged w k l (Ok tt)) where
     formed : Formed w (kind_of o) l
-    formed = rw e at (j.passes s)
+    formed = rw e at (j.passes refl)
 
     -- there are no lists
     pub merged_none : length l.counts ≡ 0 → (c : Merged P) {d : Merged P} {a : Answer} → leaves a d ≡ of_none w o c → leaves a d ≡ merging w o l c
@@ -100,22 +98,22 @@ module _ {P : Type 0} {w : Width P} {o : Operation} {l : Lent P} {space : ℕ} {
         let q : d' ≡ done write c = p.is ∙ ap (done write) i.turn.kept in
         rw q (if_keeps (merged_takes w) 0 write (pieces w o l) c (λ t. omega (arith, i.turn.enough t)))
 
-    module _ {s : Conclusion} (q : s ≡ concluded write n space) where
-      pub turns_answered : {a : Answer} → s ≡ Answered a → leaves a d' ≡ merging w o l c
+    module _ {s : Option Answer} (q : s ≡ concluded write n space) where
+      pub turns_answered : {a : Answer} → s ≡ Some a → leaves a d' ≡ merging w o l c
       unfolding merging
       turns_answered h = rw (formed_sound w (kind_of o) l i.formed) (turn_answered done (λ c. refl) i.turn count p.is q h)
 
-      pub turns_again : s ≡ Again → (write ≡ false) × Turns w o l space c d' true
+      pub turns_again : s ≡ None → (write ≡ false) × Turns w o l space c d' true
       turns_again h = let t = turn_again done (λ c. refl) i.turn count p.is q h in (t.0, record { formed = i.formed; lists_some = i.lists_some; turn = t.1 })
 
 -- over zero lists an operation says of the whole line what it says of no lists
 module _ {P : Type 0} (w : Width P) (o : Operation) (some-point : 0 < w.points) (c : Merged P) where
-  pub none_nothing : none ≡ rule_of o [] → leaves (Done 0) c ≡ of_none w o c
+  pub none_nothing : None ≡ rule_of o [] → leaves (Ok 0) c ≡ of_none w o c
   none_nothing e = rw (merged_of_none o w.points some-point, ← e, le-leb 0 (room c) (omega arith), if_nothing (merged_takes w) 0 true c)
 
-  module _ {v : ℤ} (e : some v ≡ rule_of o []) where
-    pub none_lacks : room c ≡ 0 → leaves (NoRoom 1) c ≡ of_none w o c
+  module _ {v : ℤ} (e : Some v ≡ rule_of o []) where
+    pub none_lacks : room c ≡ 0 → leaves (Err (NoRoom 1)) c ≡ of_none w o c
     none_lacks h = rw (merged_of_none o w.points some-point, ← e, lt-leb 1 (room c) (omega arith))
 
-    pub none_whole : 0 < room c → {greatest : ℕ} {d : Merged P} {r : ℕ} → PutPieces (lay w) true 0 (record { start = 0; end = greatest; value = v } ∷ []) c d r → greatest + 1 ≡ w.points → leaves (Done r) d ≡ of_none w o c
+    pub none_whole : 0 < room c → {greatest : ℕ} {d : Merged P} {r : ℕ} → PutPieces (lay w) true 0 (record { start = 0; end = greatest; value = v } ∷ []) c d r → greatest + 1 ≡ w.points → leaves (Ok r) d ≡ of_none w o c
     none_whole h {greatest} p g = let q : pred w.points ≡ greatest = omega arith in rw (merged_of_none o w.points some-point, ← e, q, le-leb 1 (room c) (omega arith), p.count, p.is)

@@ -1,21 +1,23 @@
-// Many-way joins and selections, but for their columns: how they are judged, what they say of no lists, and how much room there is.
+// Many-way joins and selections over lent columns, as one operation: refusals, zero lists, room, and the passes over the lists.
 
 #![tactic(auto)]
 
-ghost use Rattle.std.specs.Prelude.{min, ◌≡◌, []};
-ghost use Rattle.many_way_rules.specs.Operations.{kind_of, rule_of};
-ghost use Rattle.multiway_pass.specs.Pieces.{ruling_of};
+ghost use Rattle.std.specs.Prelude.{◌≡◌, []};
+ghost use Rattle.rules.specs.Lists.{lists, held};
+ghost use Rattle.rules.specs.Answer.{leaves};
+ghost use Rattle.rules.specs.Merged.{output, before, after, room, lay};
+ghost use Rattle.many_way_rules.specs.Operations.{kind_of, rule_of, merged};
+ghost use Rattle.many_way_rules.specs.Outcomes.{merging};
+ghost use Rattle.multiway_pass.specs.Passes.{PutPieces, Mergeable};
+ghost use Rattle.multiway_merge.specs.Zero.{of_none};
 
+use form::judge;
+use integer::Integer;
 use many_way_rules::{Operation, known};
-use multiway_pass::{Ruling, rule_on};
-use rules::{Kind, shorter};
-
-// The length of the shortest of three columns.
-pub fn shortest(a: usize, b: usize, c: usize) -> usize
-    ensures { result ≡ min a (min b c) }
-{
-    shorter(a, shorter(b, c))
-}
+use multiway_pass::{Piece, pass as join_pass, put, rule_on};
+use passes::{conclude, most};
+use rules::{Kind, Lists, Refusal};
+use select_pass::pass as selection_pass;
 
 // How an operation is judged: only a join has a combiner.
 pub fn kind_of(operation: Operation) -> Kind
@@ -28,13 +30,89 @@ pub fn kind_of(operation: Operation) -> Kind
 }
 
 // What an operation says of no lists: a selection has none to select.
-pub fn rule_on_none(operation: Operation) -> Ruling
-    ensures { ruling_of result ≡ rule_of operation [] }
+pub fn rule_on_none(operation: Operation) -> Option<i64>
+    ensures { result ≡ rule_of operation [] }
 {
-    let Operation::Join(admission, combiner) = operation else {
-        return Ruling::Nothing;
+    match operation {
+        Operation::Join(admission, combiner) => {
+            rule_on(admission, combiner, 0, 0, &[0; 16], &[false; 16])
+        }
+        Operation::Select(_, _) => None,
+    }
+}
+
+// Zero lists: what an operation says of no lists it says of the whole line.
+fn of_none<P: Integer>(
+    operation: Operation,
+    space: usize,
+    out_start: &mut [P],
+    out_end: &mut [P],
+    out_value: &mut [i64],
+) -> Result<usize, Refusal>
+    requires { space ≡ room (output out_start out_end out_value) }
+    ensures { leaves result (after out_start out_end out_value) ≡ of_none P.width operation (before out_start out_end out_value) }
+{
+    let greatest = P::greatest_key();
+    let Some(value) = rule_on_none(operation) else {
+        return Ok(0);
     };
-    let current: [i32; 16] = [0; 16];
-    let present: [bool; 16] = [false; 16];
-    rule_on(admission, combiner, 0, 0, &current, &present)
+    if space == 0 {
+        return Err(Refusal::NoRoom(1));
+    }
+    let whole = Piece {
+        start: 0,
+        end: greatest,
+        value,
+    };
+    Ok(put(true, 0, Some(whole), out_start, out_end, out_value))
+}
+
+// One pass over the lists: how many pieces there are. They are written where `write` says so.
+fn pass<P: Integer>(
+    operation: Operation,
+    lent: Lists<P>,
+    write: bool,
+    out_start: &mut [P],
+    out_end: &mut [P],
+    out_value: &mut [i64],
+) -> usize
+    requires { Mergeable P.width operation (held lent) write (output out_start out_end out_value) }
+    ensures { let xs = merged operation P.width.points (lists P.width (held lent.entry)) in
+        PutPieces (lay P.width) write 0 xs (before out_start out_end out_value) (after out_start out_end out_value) result }
+{
+    match operation {
+        Operation::Join(admission, combiner) => join_pass(
+            admission, combiner, lent, write, out_start, out_end, out_value,
+        ),
+        Operation::Select(_, admission) => {
+            selection_pass(admission, lent, write, out_start, out_end, out_value)
+        }
+    }
+}
+
+// A many-way join or selection of the lists that are lent: what is refused, or all pieces, where there is room for them. Where the
+// room may not do, a counting pass tells how many there are.
+pub fn merge_lists<P: Integer>(
+    operation: Operation,
+    lent: Lists<P>,
+    out_start: &mut [P],
+    out_end: &mut [P],
+    out_value: &mut [i64],
+) -> Result<usize, Refusal>
+    ensures { leaves result (after out_start out_end out_value)
+        ≡ merging P.width operation (held lent.entry) (before out_start out_end out_value) }
+{
+    judge(kind_of(operation), lent)?;
+    let space = out_start.len().min(out_end.len().min(out_value.len()));
+    if lent.counts.is_empty() {
+        return of_none(operation, space, out_start, out_end, out_value);
+    }
+    let mut sure = most(lent.starts.len()) <= space;
+    loop {
+        let count = pass(operation, lent, sure, out_start, out_end, out_value);
+        if let Some(answer) = conclude(sure, count, space) {
+            return answer;
+        }
+        sure = true;
+    }
 }

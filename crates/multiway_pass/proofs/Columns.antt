@@ -2,9 +2,10 @@
 use Prim.Native.Nat.{ℕ, ◌+◌, ◌≤◌, ◌<◌}
 use mathlib.Core.Path.{◌≡◌, refl, sym, ap, ◌∙◌}
 use mathlib.Core.Bool.{Bool, true, false}
+use Rattle.std.specs.declared.option.Option.{Option}
+use Rattle.std.specs.declared.option.Option.TheVariants.{Some}
 use mathlib.Core.List.{List, [], ◌∷◌, ◌++◌, map, append_assoc}
 use native.Mathlib.Omega.{arith}
-use native.Mathlib.Nat.{add-zero}
 use native.Mathlib.Numerals.{add-one}
 use lib.IntN.{ℤ}
 use lib.ListN.{length, take, drop, set, length-append, length-map}
@@ -16,10 +17,8 @@ use Rattle.rules.specs.Merged.{Merged, lengths, room, lay}
 use Rattle.rules.specs.Proving.Long.{Long}
 use Rattle.rules.proofs.Fronts.{laid_nothing, laid_long}
 use Rattle.multiway_pass.specs.Pieces.{piece_of, waiting}
-use Rattle.multiway_pass.specs.Passes.{Puttable, lay_if, PutPieces}
+use Rattle.multiway_pass.specs.Passes.{lay_if, PutPieces}
 use Rattle.multiway_pass.specs.declared.Piece.{Piece}
-use Rattle.multiway_pass.specs.declared.Pending.{Pending}
-use Rattle.multiway_pass.specs.declared.Pending.TheVariants.{Nothing, One}
 
 -- what columns C with pieces of value B have to do with each other: lay n xs c is c with xs from place n on
 pub record Takes {B C : Type 0} (lengths : C → List ℕ) (lay : ℕ → List (PieceOf B) → C → C) : Type 0 where
@@ -82,17 +81,19 @@ module _ {P : Type 0} (w : Width P) where
         keeps = λ n xs c h. (laid_long start_of n xs c.start (omega arith), (laid_long end_of n xs c.end (omega arith), (laid_long value_of n xs c.value (omega arith), tt)));
       }
 
-pub placed : {points space : ℕ} {write : Bool} {n : ℕ} {p : Pending} {x : Piece} → p ≡ One x → Puttable points space write n (waiting p) → Puttable points space write n (piece_of x ∷ [])
-placed h q = rw h at q
+-- what `put` does, with a piece that is written or is not
+module _ {P : Type 0} (w : Width P) {write : Bool} {n : ℕ} {p : Option Piece} (c d : Merged P) {x : Piece} (h : p ≡ Some x) where
+  pub put_not : write ≡ false → c ≡ d → PutPieces (lay w) write n (waiting p) c d (n + 1)
+  put_not e q = rw (e, h) (record { count = refl; is = sym q })
 
--- what `put` does, with nothing done, and with a piece that is written or is not
-module _ {P : Type 0} (w : Width P) {write : Bool} {n : ℕ} {p : Pending} (c : Merged P) where
-  pub put_nothing : p ≡ Nothing → PutPieces (lay w) write n (waiting p) c c n
-  put_nothing h = rw h (record { count = sym (add-zero n); is = sym (if_nothing (merged_takes w) n write c) })
-
-  module _ {x : Piece} (h : p ≡ One x) where
-    pub put_not : write ≡ false → PutPieces (lay w) write n (waiting p) c c (n + 1)
-    put_not e = rw (e, h) (record { count = refl; is = refl })
-
-    pub put_done : write ≡ true → n < room c → {s e : List P} {v : ℤ} → s ≡ set c.start n (w.point x.start) → e ≡ set c.end n (w.point x.end) → v ≡ x.value → PutPieces (lay w) write n (waiting p) c (record { start = s; end = e; value = set c.value n v }) (n + 1)
-    put_done t l a b q = rw (t, h) (record { count = refl; is = λ i. record { start = (a ∙ laid_one (start_of w) n (piece_of x) c.start (omega arith)) i; end = (b ∙ laid_one (end_of w) n (piece_of x) c.end (omega arith)) i; value = (ap (set c.value n) q ∙ laid_one (value_of w) n (piece_of x) c.value (omega arith)) i } })
+  pub put_done : write ≡ true → n < room c → {v : ℤ} → v ≡ x.value → d.start ≡ set c.start n (w.point x.start) → d.end ≡ set c.end n (w.point x.end) → d.value ≡ set c.value n v → PutPieces (lay w) write n (waiting p) c d (n + 1)
+  put_done t l q a b z =
+      rw (t, h)
+      (record {
+        count = refl;
+        is = λ i. record {
+          start = (a ∙ laid_one (start_of w) n (piece_of x) c.start (omega arith)) i;
+          end = (b ∙ laid_one (end_of w) n (piece_of x) c.end (omega arith)) i;
+          value = (z ∙ ap (set c.value n) q ∙ laid_one (value_of w) n (piece_of x) c.value (omega arith)) i;
+        };
+      })

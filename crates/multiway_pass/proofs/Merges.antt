@@ -1,8 +1,9 @@
 -- A join or a selection as a walk: pieces of whole pence, laid into columns of starts, ends and values from the first place on. Assumes nothing.
 use Prim.Native.Nat.{ℕ, ◌≤◌, ◌<◌}
-use mathlib.Core.Path.{◌≡◌, sym, ap, ◌∙◌}
+use mathlib.Core.Path.{◌≡◌, sym, ◌∙◌}
 use mathlib.Core.Bool.{Bool}
-use mathlib.Core.Option.{none, some}
+use Rattle.std.specs.declared.option.Option.{Option}
+use Rattle.std.specs.declared.option.Option.TheVariants.{None}
 use mathlib.Core.List.{List, [], ◌∷◌}
 use native.Mathlib.Omega.{arith}
 use lib.IntN.{ℤ}
@@ -22,10 +23,7 @@ use Rattle.many_way_rules.specs.declared.Operation.{Operation}
 use Rattle.many_way_rules.proofs.Room.{rule_nones, merged_enough}
 use Rattle.slots.specs.Slots.{Slots, active, Counted}
 use Rattle.slots.specs.Stretch.{Stretch}
-use Rattle.multiway_pass.specs.Pieces.{ruling_of}
 use Rattle.multiway_pass.specs.Passes.{PutPieces, Mergeable}
-use Rattle.multiway_pass.specs.declared.Ruling.{Ruling}
-use Rattle.multiway_pass.specs.declared.Ruling.TheVariants.{Nothing as NotAdmitted, Value}
 use Rattle.multiway_pass.proofs.Columns.{merged_takes}
 use Rattle.multiway_pass.proofs.Walks.{Walk, pieces, Walkable}
 
@@ -39,7 +37,7 @@ module _ {P : Type 0} {w : Width P} {k : Kind} {l : Lent P} (f : Formed w k l) w
   lists_counted c = rw (lists_length w l) at c
 
 -- where there is a list, no operation admits a point at which none has anything
-pub nothing_there : (o : Operation) (ls : List (List Range)) → 0 < length ls → rule_of o (nones ls) ≡ none
+pub nothing_there : (o : Operation) (ls : List (List Range)) → 0 < length ls → rule_of o (nones ls) ≡ None
 nothing_there o [] h = absurd (omega arith)
 nothing_there o (l ∷ ls) h = rule_nones o l ls
 
@@ -64,13 +62,7 @@ module _ {P : Type 0} {w : Width P} {o : Operation} {l : Lent P} {write : Bool} 
   unfolding merged
   all_merged p = p
 
-  -- what it says of a stretch, as a ruling
-  module _ (s : Slots) {k start end : ℕ} (t : Stretch w.points (lists w l) k (active (length (lists w l)) s) start end) (q : Ruling) (e : ruling_of q ≡ rule_of o (active (length l.counts) s)) where
-    says : rule_of o (active (length (lists w l)) s) ≡ ruling_of q
-    says = rw (lists_length w l) (sym e)
-
-    pub ruled_out : q ≡ NotAdmitted → rule_of o (active (length (lists w l)) s) ≡ none
-    ruled_out h = says ∙ ap ruling_of h
-
-    pub ruled_in : {v v' : ℤ} → q ≡ Value v → v' ≡ v → rule_of o (active (length (lists w l)) s) ≡ some v'
-    ruled_in h u = says ∙ ap ruling_of h ∙ ap some (sym u)
+  -- what it says of a stretch
+  module _ (s : Slots) {k start end : ℕ} (t : Stretch w.points (lists w l) k (active (length (lists w l)) s) start end) (q : Option ℤ) (e : q ≡ rule_of o (active (length l.counts) s)) where
+    pub says : {r : Option ℤ} → q ≡ r → rule_of o (active (length (lists w l)) s) ≡ r
+    says h = rw (lists_length w l) (sym e ∙ h)

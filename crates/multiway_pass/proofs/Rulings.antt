@@ -2,7 +2,8 @@
 use Prim.Native.Nat.{ℕ, ◌≤◌, min}
 use mathlib.Core.Path.{◌≡◌, sym, ◌∙◌}
 use mathlib.Core.Bool.{Bool, true, false}
-use mathlib.Core.Option.{Option, none}
+use Rattle.std.specs.declared.option.Option.{Option}
+use Rattle.std.specs.declared.option.Option.TheVariants.{None}
 use mathlib.Core.List.{List}
 use native.Mathlib.Omega.{arith}
 use lib.IntN.{ℤ}
@@ -25,7 +26,7 @@ pub counted_present : {lists n : ℕ} {s : Slots} → Counted lists n s → Pres
 counted_present {lists} {s = s} c = record { long = active_length lists s; count = c.count }
 
 module _ (a : Admission) (combiner n : ℕ) (s : Slots) {t : Bool} (e : t ≡ admitted a (active n s)) where
-  pub not_admitted : t ≡ false → none ≡ rule_of (Join a combiner) (active n s)
+  pub not_admitted : t ≡ false → None ≡ rule_of (Join a combiner) (active n s)
   not_admitted h = rw (sym e ∙ h)
 
   -- the combiner's answer

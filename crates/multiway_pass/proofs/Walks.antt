@@ -3,7 +3,8 @@ use Prim.Native.Nat.{ℕ, zero, suc, pred, ◌+◌, ◌-◌, ◌≤◌, ◌<◌,
 use mathlib.Core.Path.{◌≡◌, refl, sym, ap, ◌∙◌, subst}
 use mathlib.Core.Logic.{◌⊎◌, inl, inr}
 use mathlib.Core.Bool.{Bool, true, false}
-use mathlib.Core.Option.{Option, none, some}
+use Rattle.std.specs.declared.option.Option.{Option}
+use Rattle.std.specs.declared.option.Option.TheVariants.{None, Some}
 use mathlib.Core.List.{List, [], ◌∷◌, ◌++◌, append_assoc, append-nil}
 use native.Mathlib.Omega.{arith}
 use native.Mathlib.Nat.{add-zero}
@@ -40,8 +41,8 @@ module _ {B : Type 0} (same : B → B → Bool) where
   push_longer (x ∷ z ∷ zs) y = omega (arith, push_longer (z ∷ zs) y)
 
   extend_longer : (o : Option B) (c d : ℕ) (xs : List (Piece B)) → length xs ≤ length (extend same o c d xs)
-  extend_longer none c d xs = omega arith
-  extend_longer (some v) c d xs = push_longer xs _
+  extend_longer None c d xs = omega arith
+  extend_longer (Some v) c d xs = push_longer xs _
 
   -- pieces up to a point grow, one point after the other, to pieces up to a later one
   grown : Decides same → (f : ℕ → Option B) (m k : ℕ) (xs : List (Piece B)) → Below k xs f → (ys : List (Piece B)) × Below (k + m) ys f × (length xs ≤ length ys)
@@ -84,7 +85,7 @@ module _ {A B C : Type 0} (k : Walk A B C) where
     pub law : Decides k.same
     pub takes : Takes k.lengths k.lay
     pub formed : AllWellFormed k.points k.lists
-    pub nothing : k.rule (nones k.lists) ≡ none
+    pub nothing : k.rule (nones k.lists) ≡ None
     pub roomy : k.write ≡ true → k.from + length pieces ≤ least (k.lengths k.columns)
     pub few : k.from + length pieces < 2 ^ 64
 
@@ -145,7 +146,7 @@ module _ {A B C : Type 0} {k : Walk A B C} where
         next_laid = u.is ∙ rw (g.laid, g.counted) (if_append g.ok.takes k.from k.write g.done next k.columns next_roomy)
 
     -- points of which the rule says nothing
-    pub skipped : (q : ℕ) → p ≤ q → q ≤ k.points → ((r : ℕ) → p ≤ r → r < q → says k.rule k.lists r ≡ none) → Going k d waiting place q
+    pub skipped : (q : ℕ) → p ≤ q → q ≤ k.points → ((r : ℕ) → p ≤ r → r < q → says k.rule k.lists r ≡ None) → Going k d waiting place q
     skipped q h m f = record { ok = g.ok; upto = m; done = g.done; counted = g.counted; laid = g.laid; below = skip_below p q (g.done ++ waiting) (says k.rule k.lists) g.below h f; first = g.first }
 
     -- a stretch
@@ -153,14 +154,14 @@ module _ {A B C : Type 0} {k : Walk A B C} where
       pub turn_less : k.points - (end + 1) < k.points - p
       turn_less = omega (arith, t.later, t.order, t.below)
 
-      before : (q : ℕ) → p ≤ q → q < start → says k.rule k.lists q ≡ none
+      before : (q : ℕ) → p ≤ q → q < start → says k.rule k.lists q ≡ None
       before q h m = ap k.rule (t.gap q h m) ∙ g.ok.nothing
 
       -- that is not admitted
-      pub turn_silent : k.rule act ≡ none → Going k d waiting place (end + 1)
+      pub turn_silent : k.rule act ≡ None → Going k d waiting place (end + 1)
       turn_silent e = skipped (end + 1) (omega (arith, t.later, t.order)) (omega (arith, t.below)) (λ q h m. go q h m (le_or_lt start q))
         where
-          go : (q : ℕ) → p ≤ q → q < end + 1 → (start ≤ q) ⊎ (q < start) → says k.rule k.lists q ≡ none
+          go : (q : ℕ) → p ≤ q → q < end + 1 → (start ≤ q) ⊎ (q < start) → says k.rule k.lists q ≡ None
           go q h m (inl u) = ap k.rule (t.on q u (omega arith)) ∙ e
           go q h m (inr u) = before q h u
 
@@ -169,7 +170,7 @@ module _ {A B C : Type 0} {k : Walk A B C} where
       turn_apart = within_last 0 start g.done waiting (within_mono 0 p start (g.done ++ waiting) g.below.canonical.0 t.later)
 
       -- that is admitted with a value, and is pushed to what waits
-      module _ {y : Piece B} {next : List (Piece B)} {z : Piece B} (u : PushedOn k.same waiting y next z) (s : y.start ≡ start) (f : y.end ≡ end) (e : k.rule act ≡ some y.value) where
+      module _ {y : Piece B} {next : List (Piece B)} {z : Piece B} (u : PushedOn k.same waiting y next z) (s : y.start ≡ start) (f : y.end ≡ end) (e : k.rule act ≡ Some y.value) where
         pushed : Upto k (end + 1) (push k.same (g.done ++ waiting) y)
         pushed =
             let q : pred (end + 1) ≡ end = omega arith in

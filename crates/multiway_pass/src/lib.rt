@@ -1,48 +1,40 @@
-// What a many-way operation does with a stretch, in keys: what a join says of it, and a piece that is merged into the one before or is
-// not.
+// One pass of a many-way join over the stretches of the lists: what the join says of a stretch, a piece that is merged into the one before
+// or is not, and the pieces counted, and written where that is asked.
 
 #![tactic(auto)]
 
 ghost use Rattle.std.specs.Prelude.{◌<◌, ◌≡◌, List, ℤ};
-ghost use Rattle.std.proofs.Math.Option.{Option};
+ghost use Rattle.std.specs.declared.option.Option.{Option};
 ghost use Rattle.rules.specs.Piece.{Within};
 ghost use Rattle.rules.specs.Runs.{touch};
 ghost use Rattle.rules.specs.Same.{eq_ℤ};
+ghost use Rattle.rules.specs.Lists.{lists, held};
+ghost use Rattle.rules.specs.Merged.{output, before, after, room, lay};
 ghost use Rattle.many_way_rules.specs.Selections.{admitted};
-ghost use Rattle.many_way_rules.specs.Operations.{rule_of};
+ghost use Rattle.many_way_rules.specs.Operations.{rule_of, merged};
 ghost use Rattle.many_way_rules.specs.declared.Operation.TheVariants.{Join};
 ghost use Rattle.slots.specs.Slots.{active, Counted, slots_of};
-ghost use Rattle.multiway_pass.specs.Pieces.{Present, ruling_of, piece_of, waiting, PushedOn};
+ghost use Rattle.multiway_pass.specs.Pieces.{Present, piece_of, waiting, PushedOn};
+ghost use Rattle.multiway_pass.specs.Passes.{Puttable, PutPieces, Mergeable};
 
-use combine::{Combined, combine};
+use combine::combine;
+use integer::{Integer, put_key};
+use join_sweep::JoinSweep;
 use many_way_rules::Admission;
+use rules::Lists;
 
-// What an operation says of a stretch: not admitted, or admitted with a value.
-#[derive(Clone, Copy)]
-pub enum Ruling {
-    Nothing,
-    Value(i64),
-}
-
-#[derive(Clone, Copy)]
+#[derive(Clone, Copy, Debug, PartialEq, Eq)]
 pub struct Piece {
     pub start: u64,
     pub end: u64,
     pub value: i64,
 }
 
-// A piece that may still grow, or none.
-#[derive(Clone, Copy)]
-pub enum Pending {
-    Nothing,
-    One(Piece),
-}
-
-// The piece that is pending then, and what was pending before, where it is done.
-#[derive(Clone, Copy)]
+// The piece that is pending then, which may still grow, and what was pending before, where it is done.
+#[derive(Clone, Copy, Debug, PartialEq, Eq)]
 pub struct Pushed {
     pub pending: Piece,
-    pub done: Pending,
+    pub done: Option<Piece>,
 }
 
 // Whether a point is admitted at which so many of the lists are present.
@@ -56,7 +48,7 @@ pub fn admits(admission: Admission, lists: usize, how_many: usize) -> bool
     }
 }
 
-// What a join says of a stretch on which the lists have what the places hold, so many of them something.
+// What a join says of a stretch on which the lists have what the places hold, so many of them something: its value there, if it is admitted.
 pub fn rule_on(
     admission: Admission,
     combiner: u8,
@@ -64,18 +56,14 @@ pub fn rule_on(
     how_many: usize,
     current: &[i32; 16],
     present: &[bool; 16],
-) -> Ruling
+) -> Option<i64>
     requires { Counted lists how_many (slots_of current.now present.now) }
-    ensures { ruling_of result ≡ rule_of (Join admission combiner) (active lists (slots_of current.now present.now)) }
+    ensures { result ≡ rule_of (Join admission combiner) (active lists (slots_of current.now present.now)) }
 {
     if !admits(admission, lists, how_many) {
-        return Ruling::Nothing;
+        return None;
     }
-    let combined = combine(combiner, lists, current, present);
-    let Combined::Value(value) = combined else {
-        return Ruling::Nothing;
-    };
-    Ruling::Value(value)
+    combine(combiner, lists, current, present)
 }
 
 // Whether a piece touches the next and has its value. The next starts later, so one can be added to its end.
@@ -87,29 +75,87 @@ fn touches(pending: Piece, next: Piece) -> bool
 }
 
 // Merges a piece into the pending one if it touches and is equal; otherwise it is pending itself, and what was pending is done.
-pub fn push_merged(pending: Pending, next: Piece) -> Pushed
+pub fn push_merged(pending: Option<Piece>, next: Piece) -> Pushed
     requires { Within 0 next.start (waiting pending) }
     ensures { PushedOn eq_ℤ (waiting pending) (piece_of next) (waiting result.done) (piece_of result.pending) }
 {
-    let Pending::One(piece) = pending else {
-        return Pushed {
+    match pending {
+        Some(piece) if touches(piece, next) => Pushed {
+            pending: Piece {
+                end: next.end,
+                ..piece
+            },
+            done: None,
+        },
+        _ => Pushed {
             pending: next,
-            done: Pending::Nothing,
-        };
+            done: pending,
+        },
+    }
+}
+
+// Writes a piece that is done, if there is one, at a place of the columns, where it is to be written; the place after it.
+// The columns that are written stay three: a struct of them could not be lent on from pass to piece. Whether to write stays a flag: a
+// closure that writes would have to hold the three columns, and be told of under this same contract.
+pub fn put<P: Integer>(
+    write: bool,
+    place: usize,
+    done: Option<Piece>,
+    out_start: &mut [P],
+    out_end: &mut [P],
+    out_value: &mut [i64],
+) -> usize
+    requires { Puttable P.width.points (room (output out_start out_end out_value)) write place (waiting done) }
+    ensures { let c = before out_start out_end out_value in
+        PutPieces (lay P.width) write place (waiting done) c (after out_start out_end out_value) result }
+{
+    let Some(piece) = done else {
+        return place;
     };
-    if touches(piece, next) {
-        let merged = Piece {
-            start: piece.start,
-            end: next.end,
-            value: piece.value,
-        };
-        return Pushed {
-            pending: merged,
-            done: Pending::Nothing,
-        };
+    if write {
+        put_key(out_start, place, piece.start);
+        put_key(out_end, place, piece.end);
+        out_value[place] = piece.value;
     }
-    Pushed {
-        pending: next,
-        done: pending,
+    place + 1
+}
+
+// One pass over all stretches: how many pieces there are. They are written where `write` says so.
+pub fn pass<P: Integer>(
+    admission: Admission,
+    combiner: u8,
+    lent: Lists<P>,
+    write: bool,
+    out_start: &mut [P],
+    out_end: &mut [P],
+    out_value: &mut [i64],
+) -> usize
+    requires { Mergeable P.width (Join admission combiner) (held lent) write (output out_start out_end out_value) }
+    ensures { let xs = merged (Join admission combiner) P.width.points (lists P.width (held lent.entry)) in
+        PutPieces (lay P.width) write 0 xs (before out_start out_end out_value) (after out_start out_end out_value) result }
+{
+    let mut sweep = JoinSweep::new(lent);
+    let mut pending = None;
+    let mut count: usize = 0;
+    while let Some(range) = sweep.next_stretch(lent) {
+        let value = rule_on(
+            admission,
+            combiner,
+            lent.counts.len(),
+            sweep.active_count,
+            &sweep.current,
+            &sweep.present,
+        );
+        if let Some(value) = value {
+            let next = Piece {
+                start: range.start,
+                end: range.end,
+                value,
+            };
+            let pushed = push_merged(pending, next);
+            count = put(write, count, pushed.done, out_start, out_end, out_value);
+            pending = Some(pushed.pending);
+        }
     }
+    put(write, count, pending, out_start, out_end, out_value)
 }

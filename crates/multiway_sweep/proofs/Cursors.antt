@@ -2,7 +2,8 @@
 use Prim.Native.Nat.{ℕ, zero, suc, ◌+◌, ◌≤◌, ◌<◌}
 use mathlib.Core.Path.{◌≡◌, refl, sym, ap, ◌∙◌}
 use mathlib.Core.Logic.{◌≢◌}
-use mathlib.Core.Option.{Option, none, some}
+use Rattle.std.specs.declared.option.Option.{Option}
+use Rattle.std.specs.declared.option.Option.TheVariants.{None, Some}
 use mathlib.Core.List.{List, [], ◌∷◌}
 use native.Mathlib.Omega.{arith}
 use lib.ListN.{length, get_or, set}
@@ -15,8 +16,8 @@ use Rattle.multiway_sweep.proofs.Lanes.{lanes_next, lanes_first, own_lane}
 
 module _ {A : Type 0} where
   begun_lane : (k n : ℕ) (o : Option ℕ) (xs : List (Piece A)) → Past n o xs → Lane k (begun k o (own k xs))
-  begun_lane k n none xs w = own_lane k 0 n xs w
-  begun_lane k n (some p) xs w = (refl, all_map (λ e h. omega arith) (own k xs) (own_from k (p + 1) n xs w), own_lane k (p + 1) n xs w)
+  begun_lane k n None xs w = own_lane k 0 n xs w
+  begun_lane k n (Some p) xs w = (refl, all_map (λ e h. omega arith) (own k xs) (own_from k (p + 1) n xs w), own_lane k (p + 1) n xs w)
 
   past_lanes : (k n : ℕ) (cs : List (Cursor A)) → AllPast n cs → Lanes k (lanes k cs)
   past_lanes k n [] w = tt
@@ -49,35 +50,35 @@ module _ {A : Type 0} where
       lanes_next e (lane j c) j (lanes 0 cs) (past_lanes 0 n cs w) (omega arith) (lanes_at 0 j j cs h (omega arith) ∙ g) (λ i k q. rw (lanes_at 0 i i cs (omega arith) (omega arith)) (a i (omega arith) q))
       ∙ ap (λ z. e ∷ sort (flat z)) (lanes_put 0 j j c cs (omega arith))
 
-  ahead_start : (s i j : ℕ) (v : A) (o : Option ℕ) (ys : List (Piece A)) → i ≢ j → ((q : ℕ) → o ≡ some q → s ≤ q) → ((x : Piece A) (xs : List (Piece A)) → ys ≡ x ∷ xs → s ≤ x.start) → ((x : Piece A) (xs : List (Piece A)) → ys ≡ x ∷ xs → s ≡ x.start → j ≤ i) → Ahead (starts s j v) (begun i o (own i ys))
-  ahead_start s i j v (some q) ys ne e f g = let h = e q refl in record { no_later = omega arith; tie = λ t. absurd (omega arith) }
-  ahead_start s i j v none [] ne e f g = tt
-  ahead_start s i j v none (x ∷ xs) ne e f g =
+  ahead_start : (s i j : ℕ) (v : A) (o : Option ℕ) (ys : List (Piece A)) → i ≢ j → ((q : ℕ) → o ≡ Some q → s ≤ q) → ((x : Piece A) (xs : List (Piece A)) → ys ≡ x ∷ xs → s ≤ x.start) → ((x : Piece A) (xs : List (Piece A)) → ys ≡ x ∷ xs → s ≡ x.start → j ≤ i) → Ahead (starts s j v) (begun i o (own i ys))
+  ahead_start s i j v (Some q) ys ne e f g = let h = e q refl in record { no_later = omega arith; tie = λ t. absurd (omega arith) }
+  ahead_start s i j v None [] ne e f g = tt
+  ahead_start s i j v None (x ∷ xs) ne e f g =
       let h = f x xs refl in
       record { no_later = omega arith; tie = λ t. let k = g x xs refl (omega arith) in omega arith }
 
-  ahead_end : (p i j : ℕ) (o : Option ℕ) (ys : List (Piece A)) → i ≢ j → ((x : Piece A) (xs : List (Piece A)) → ys ≡ x ∷ xs → p < x.start) → ((q : ℕ) → o ≡ some q → p ≤ q) → ((q : ℕ) → o ≡ some q → p ≡ q → j ≤ i) → Ahead (ends p j) (begun i o (own i ys))
-  ahead_end p i j (some q) ys ne f e g =
+  ahead_end : (p i j : ℕ) (o : Option ℕ) (ys : List (Piece A)) → i ≢ j → ((x : Piece A) (xs : List (Piece A)) → ys ≡ x ∷ xs → p < x.start) → ((q : ℕ) → o ≡ Some q → p ≤ q) → ((q : ℕ) → o ≡ Some q → p ≡ q → j ≤ i) → Ahead (ends p j) (begun i o (own i ys))
+  ahead_end p i j (Some q) ys ne f e g =
       let h = e q refl in
       record { no_later = omega arith; tie = λ t. let k = g q refl (omega arith) in omega arith }
-  ahead_end p i j none [] ne f e g = tt
-  ahead_end p i j none (x ∷ xs) ne f e g = let h = f x xs refl in record { no_later = omega arith; tie = λ t. absurd (omega arith) }
+  ahead_end p i j None [] ne f e g = tt
+  ahead_end p i j None (x ∷ xs) ne f e g = let h = f x xs refl in record { no_later = omega arith; tie = λ t. absurd (omega arith) }
 
   -- a list whose next range starts by the end of its active range has no active range
-  pub not_active : (n : ℕ) (o : Option ℕ) (x : Piece A) (xs : List (Piece A)) → Past n o (x ∷ xs) → ((q : ℕ) → o ≡ some q → x.start ≤ q) → o ≡ none
-  not_active n none x xs w e = refl
-  not_active n (some q) x xs w e = absurd (omega (arith, e q refl))
+  pub not_active : (n : ℕ) (o : Option ℕ) (x : Piece A) (xs : List (Piece A)) → Past n o (x ∷ xs) → ((q : ℕ) → o ≡ Some q → x.start ≤ q) → o ≡ None
+  not_active n None x xs w e = refl
+  not_active n (Some q) x xs w e = absurd (omega (arith, e q refl))
 
   module _ (n j : ℕ) (cs : List (Cursor A)) (w : AllPast n cs) (h : j < length cs) where
-    pub next_start : (x : Piece A) (xs : List (Piece A)) → (get_or cs j (fresh [])).ranges ≡ x ∷ xs → StartNext x.start j cs → left cs ≡ starts x.start j x.value ∷ left (set cs j (record { active = some x.end; ranges = xs }))
+    pub next_start : (x : Piece A) (xs : List (Piece A)) → (get_or cs j (fresh [])).ranges ≡ x ∷ xs → StartNext x.start j cs → left cs ≡ starts x.start j x.value ∷ left (set cs j (record { active = Some x.end; ranges = xs }))
     next_start x xs q s =
-        left_next n j _ (record { active = some x.end; ranges = xs }) cs w h (ap (λ o. begun j o (own j (get_or cs j (fresh [])).ranges)) idle ∙ ap (own j) q)
+        left_next n j _ (record { active = Some x.end; ranges = xs }) cs w h (ap (λ o. begun j o (own j (get_or cs j (fresh [])).ranges)) idle ∙ ap (own j) q)
         (λ i k ne. ahead_start x.start i j x.value (get_or cs i (fresh [])).active (get_or cs i (fresh [])).ranges ne (λ r. s.ends_later i r k) (λ y ys. s.starts_later i y ys k) (λ y ys. s.lower i y ys k))
       where
-        idle : (get_or cs j (fresh [])).active ≡ none
+        idle : (get_or cs j (fresh [])).active ≡ None
         idle = not_active n (get_or cs j (fresh [])).active x xs (rw q at (past_at n j cs w h)) (λ r. s.ends_later j r h)
 
-    pub next_end : (p : ℕ) (xs : List (Piece A)) → (get_or cs j (fresh [])).active ≡ some p → (get_or cs j (fresh [])).ranges ≡ xs → EndNext p j cs → left cs ≡ ends p j ∷ left (set cs j (fresh xs))
+    pub next_end : (p : ℕ) (xs : List (Piece A)) → (get_or cs j (fresh [])).active ≡ Some p → (get_or cs j (fresh [])).ranges ≡ xs → EndNext p j cs → left cs ≡ ends p j ∷ left (set cs j (fresh xs))
     next_end p xs q r s =
         left_next n j _ (fresh xs) cs w h (ap (λ o. begun j o (own j (get_or cs j (fresh [])).ranges)) q ∙ ap (λ z. ends p j ∷ own j z) r)
         (λ i k ne. ahead_end p i j (get_or cs i (fresh [])).active (get_or cs i (fresh [])).ranges ne (λ y ys. s.starts_later i y ys k) (λ t. s.ends_later i t k) (λ t. s.lower i t k))
@@ -102,15 +103,15 @@ module _ {A : Type 0} where
   past_set n (suc j) c (x ∷ xs) w p = (w.0, past_set n j c xs w.1 p)
 
   past_whole : (n : ℕ) (o : Option ℕ) (xs : List (Piece A)) → Past n o xs → Within 0 n xs
-  past_whole n none xs w = w
-  past_whole n (some p) [] w = omega arith
-  past_whole n (some p) (x ∷ xs) w = (omega arith, w.1, w.2)
+  past_whole n None xs w = w
+  past_whole n (Some p) [] w = omega arith
+  past_whole n (Some p) (x ∷ xs) w = (omega arith, w.1, w.2)
 
   module _ (n j : ℕ) (cs : List (Cursor A)) (w : AllPast n cs) (h : j < length cs) where
-    pub past_start : (x : Piece A) (xs : List (Piece A)) → (get_or cs j (fresh [])).ranges ≡ x ∷ xs → AllPast n (set cs j (record { active = some x.end; ranges = xs }))
+    pub past_start : (x : Piece A) (xs : List (Piece A)) → (get_or cs j (fresh [])).ranges ≡ x ∷ xs → AllPast n (set cs j (record { active = Some x.end; ranges = xs }))
     past_start x xs q =
         let p = past_whole n (get_or cs j (fresh [])).active (x ∷ xs) (rw q at (past_at n j cs w h)) in
-        past_set n j (record { active = some x.end; ranges = xs }) cs w p.2
+        past_set n j (record { active = Some x.end; ranges = xs }) cs w p.2
 
     pub past_end : (xs : List (Piece A)) → (get_or cs j (fresh [])).ranges ≡ xs → AllPast n (set cs j (fresh xs))
     past_end xs q = past_set n j (fresh xs) cs w (past_whole n (get_or cs j (fresh [])).active xs (rw q at (past_at n j cs w h)))

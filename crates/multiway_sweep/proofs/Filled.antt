@@ -3,7 +3,8 @@ use Prim.Native.Nat.{ℕ, zero, suc, ◌+◌, ◌-◌, ◌<◌, ◌≤◌}
 use mathlib.Core.Path.{◌≡◌, refl, sym, ap, ◌∙◌}
 use mathlib.Core.Logic.{◌⊎◌, inl, inr}
 use mathlib.Core.Bool.{cond}
-use mathlib.Core.Option.{Option, none, some}
+use Rattle.std.specs.declared.option.Option.{Option}
+use Rattle.std.specs.declared.option.Option.TheVariants.{None, Some}
 use mathlib.Core.List.{List, [], ◌∷◌}
 use native.Mathlib.Omega.{arith}
 use native.Mathlib.Numerals.{add-one}
@@ -13,8 +14,11 @@ use lib.ListN.{length, get_or, take, set, length-set, get_or-eq_default}
 use lib.Seq.{get_or-set_same, get_or-set_other}
 use borrow.Author.Count.{below_more}
 use borrow.Author.Tests.{lt-ltb, le-ltb}
-use Rattle.heap.specs.Heap.{Entries, Whole, entries_of, rank, Pushed}
-use Rattle.heap.proofs.Laws.{by_eq, count_none, heap_none}
+use Rattle.heap.specs.Heap.{rank, ranks}
+use Rattle.heap.specs.Moved.{Pushed}
+use Rattle.heap.specs.Order.{count}
+use Rattle.heap.specs.declared.Heap.{Heap}
+use Rattle.heap.proofs.Laws.{by_eq, count_none}
 use Rattle.rules.specs.Piece.{Piece, AllWellFormed}
 use Rattle.rules.specs.Lists.{Width, keys, ranges, cut, total}
 use Rattle.rules.specs.Sweep.{events}
@@ -22,8 +26,10 @@ use Rattle.rules.proofs.At.{le_or_lt}
 use Rattle.rules.proofs.Columns.{cut_length}
 use Rattle.multiway_sweep.specs.Cursors.{fresh, fresh_all}
 use Rattle.multiway_sweep.specs.Stands.{Entered, times, first_start, at, actives, Stands}
-use Rattle.multiway_sweep.specs.Steps.{next_at, stop_at}
-use Rattle.multiway_sweep.specs.Begins.{Fills}
+use Rattle.multiway_sweep.specs.Steps.{course, next_at, stop_at}
+use Rattle.multiway_sweep.specs.Begins.{Begins}
+use Rattle.multiway_sweep.specs.declared.Course.{Course}
+use Rattle.multiway_sweep.specs.declared.Sweep.{Sweep}
 use Rattle.multiway_sweep.proofs.Cursors.{left_first}
 use Rattle.multiway_sweep.proofs.Entered.{entered_pushed, entered_same}
 
@@ -62,15 +68,15 @@ module _ {A : Type 0} where
   fresh_idle [] = refl
   fresh_idle (l ∷ ls) = omega (arith, fresh_idle ls)
 
-entered_empty : {h : Entries} {f : ℕ → Option ℕ} → Whole h → ((i : ℕ) → f i ≡ none) → Entered h 0 f
-entered_empty {h} w q = record { heap = heap_none w; has = λ key list l. count_none h.at (rank key list) ∙ ap (λ o. times o key) (sym (q list)) }
+entered_empty : {h : Heap} {f : ℕ → Option ℕ} → h.len ≡ 0 → ((i : ℕ) → f i ≡ None) → Entered h f
+entered_empty {h} z q = record { has = λ key list l. ap (count (rank key list) (ranks h.places)) z ∙ count_none (ranks h.places) (rank key list) ∙ ap (λ o. times o key) (sym (q list)) }
 
 -- the first start of a list of n ranges
 abbrev opening : ℕ → ℕ → Option ℕ
-opening key zero = none
-opening key (suc n) = some key
+opening key zero = None
+opening key (suc n) = Some key
 
-opening_some : (key n : ℕ) → 0 < n → opening key n ≡ some key
+opening_some : (key n : ℕ) → 0 < n → opening key n ≡ Some key
 opening_some key zero h = absurd (omega arith)
 opening_some key (suc n) h = refl
 
@@ -81,7 +87,7 @@ opening_first s e v i (suc n) = refl
 module _ (s : ℕ → ℕ) (ns : List ℕ) where
   -- the first start of the list i, if it is one of the first k
   abbrev opens : ℕ → ℕ → Option ℕ
-  opens k i = cond (ltb i k) (opening (s (total (take i ns))) (get_or ns i 0)) none
+  opens k i = cond (ltb i k) (opening (s (total (take i ns))) (get_or ns i 0)) None
 
   opens_other : (k i : ℕ) → (i ≡ k → ⊥) → opens (k + 1) i ≡ opens k i
   opens_other k i ne = go (le_or_lt k i)
@@ -90,42 +96,44 @@ module _ (s : ℕ → ℕ) (ns : List ℕ) where
       go (inl h) = rw (le-ltb i (k + 1) (omega arith), le-ltb i k h)
       go (inr h) = rw (lt-ltb i (k + 1) (omega arith), lt-ltb i k h)
 
-  -- the cursors of the first k lists are laid, and the next list begins at a place
-  pub record Laid (long : ℕ) (cursors : List ℕ) (h : Entries) (size k from : ℕ) : Type 0 where
+  -- the courses of the first k lists are laid, and the next list begins at a place
+  pub record Laid (long : ℕ) (courses : List Course) (h : Heap) (k from : ℕ) : Type 0 where
     pub few : length ns ≤ 16
     pub adds_up : total ns ≡ long
     pub below : k ≤ length ns
-    pub small : size ≤ k
+    pub small : h.len ≤ k
     pub begins : from ≡ total (take k ns)
-    pub cursors_long : length cursors ≡ 32
-    pub next_laid : (i : ℕ) → i < k → next_at cursors i ≡ total (take i ns)
-    pub stop_laid : (i : ℕ) → i < k → stop_at cursors i ≡ total (take (i + 1) ns)
-    pub firsts : Entered h size (opens k)
+    pub courses_long : length courses ≡ 16
+    pub next_laid : (i : ℕ) → i < k → next_at courses i ≡ total (take i ns)
+    pub stop_laid : (i : ℕ) → i < k → stop_at courses i ≡ total (take (i + 1) ns)
+    pub firsts : Entered h (opens k)
 
-  pub laid_none : {long : ℕ} {cursors : List ℕ} {h : Entries} → length ns ≤ 16 → total ns ≡ long → length cursors ≡ 32 → Whole h → Laid long cursors h 0 0 0
-  laid_none few adds_up cursors_long whole = record {
+  pub laid_none : {long : ℕ} {courses : List Course} {h : Heap} → length ns ≤ 16 → total ns ≡ long → length courses ≡ 16 → h.len ≡ 0 → Laid long courses h 0 0
+  laid_none few adds_up courses_long empty = record {
     few = few;
     adds_up = adds_up;
     below = omega arith;
     small = omega arith;
     begins = refl;
-    cursors_long = cursors_long;
+    courses_long = courses_long;
     next_laid = λ i l. absurd (omega arith);
     stop_laid = λ i l. absurd (omega arith);
-    firsts = entered_empty whole (λ i. rw (le-ltb i 0 (omega arith)));
+    firsts = entered_empty empty (λ i. rw (le-ltb i 0 (omega arith)));
   }
 
   -- one more list
-  module _ {long : ℕ} {cursors : List ℕ} {h : Entries} {size k from : ℕ} (g : Laid long cursors h size k from) (more : k < length ns) where
+  module _ {long : ℕ} {courses : List Course} {h : Heap} {k from : ℕ} (g : Laid long courses h k from) (more : k < length ns) where
     abbrev stop : ℕ
     stop = from + get_or ns k 0
 
-    -- the list's cursor, and where it stops
-    abbrev onward : List ℕ
-    onward = set (set cursors k from) (16 + k) stop
+    abbrev onward : List Course
+    onward = set courses k (record { next = from; stop = stop })
 
-    onward_at : (i : ℕ) → (i ≡ 16 + k → ⊥) → (i ≡ k → ⊥) → get_or onward i 0 ≡ get_or cursors i 0
-    onward_at i p q = get_or-set_other (set cursors k from) (16 + k) i stop 0 p ∙ get_or-set_other cursors k i from 0 q
+    own : course onward k ≡ record { next = from; stop = stop }
+    own = get_or-set_same courses k _ _ (omega (arith, g.few, g.courses_long))
+
+    other : (i : ℕ) → i < k → course onward i ≡ course courses i
+    other i l = get_or-set_other courses k i _ _ (λ q. omega arith)
 
     ends_at : stop ≡ total (take (k + 1) ns)
     ends_at = omega (arith, g.begins, total_take k ns)
@@ -133,33 +141,29 @@ module _ (s : ℕ → ℕ) (ns : List ℕ) where
     pub laid_within : stop ≤ long
     laid_within = omega (arith, g.adds_up, ends_at, total_upto (k + 1) ns)
 
-    laid_more : {r : Entries} {m : ℕ} → m ≤ k + 1 → Entered r m (opens (k + 1)) → Laid long onward r m (k + 1) stop
+    laid_more : {r : Heap} → r.len ≤ k + 1 → Entered r (opens (k + 1)) → Laid long onward r (k + 1) stop
     laid_more l f = record {
       few = g.few;
       adds_up = g.adds_up;
       below = omega arith;
       small = l;
       begins = ends_at;
-      cursors_long = length-set (set cursors k from) (16 + k) stop ∙ length-set cursors k from ∙ g.cursors_long;
-      next_laid = below_more _ k
-          (λ i l. onward_at i (λ q. omega arith) (λ q. omega arith) ∙ g.next_laid i l)
-          (get_or-set_other (set cursors k from) (16 + k) k stop 0 (λ q. omega arith) ∙ get_or-set_same cursors k from 0 (omega (arith, g.few, g.cursors_long)) ∙ g.begins);
-      stop_laid = below_more _ k
-          (λ i l. onward_at (16 + i) (λ q. omega arith) (λ q. omega (arith, g.few)) ∙ g.stop_laid i l)
-          (get_or-set_same (set cursors k from) (16 + k) stop 0 (omega (arith, g.few, g.cursors_long, length-set cursors k from)) ∙ ends_at);
+      courses_long = length-set courses k _ ∙ g.courses_long;
+      next_laid = below_more _ k (λ i l. ap (λ x. x.next) (other i l) ∙ g.next_laid i l) (ap (λ x. x.next) own ∙ g.begins);
+      stop_laid = below_more _ k (λ i l. ap (λ x. x.stop) (other i l) ∙ g.stop_laid i l) (ap (λ x. x.stop) own ∙ ends_at);
       firsts = f;
     }
 
-    pub laid_empty : stop ≤ from → Laid long onward h size (k + 1) stop
+    pub laid_empty : stop ≤ from → Laid long onward h (k + 1) stop
     laid_empty l = laid_more (omega (arith, g.small)) (entered_same same g.firsts)
       where
         same : (i : ℕ) → opens (k + 1) i ≡ opens k i
         same i = by_eq i k (λ q. let z : get_or ns i 0 ≡ 0 = omega (arith, ap (λ j. get_or ns j 0) q) in rw (lt-ltb i (k + 1) (omega arith), z, le-ltb i k (omega arith))) (opens_other k i)
 
-    pub laid_push : {r : Entries} {key : ℕ} → from < stop → key ≡ s from → Pushed h r size (rank key k) → Laid long onward r (size + 1) (k + 1) stop
-    laid_push {key = key} l q p = laid_more (omega (arith, g.small)) (entered_pushed g.firsts k (omega (arith, g.few)) (opens_other k) (rw (le-ltb k k (omega arith))) first p)
+    pub laid_push : {r : Heap} {key : ℕ} → from < stop → key ≡ s from → Pushed h r (rank key k) → Laid long onward r (k + 1) stop
+    laid_push {key = key} l q p = laid_more (omega (arith, g.small, p.longer)) (entered_pushed g.firsts k (omega (arith, g.few)) (opens_other k) (rw (le-ltb k k (omega arith))) first p)
       where
-        first : opens (k + 1) k ≡ some key
+        first : opens (k + 1) k ≡ Some key
         first = rw (lt-ltb k (k + 1) (omega arith), ← g.begins, ← q, opening_some key (get_or ns k 0) (omega arith))
 
 -- all lists are laid
@@ -167,19 +171,19 @@ module _ {A : Type 0} (n : ℕ) (s e : ℕ → ℕ) (v : ℕ → A) (ns : List �
   abbrev ls : List (List (Piece A))
   ls = cut s e v 0 ns
 
-  all_laid : {long : ℕ} {cursors : List ℕ} {h q : Entries} {size k from : ℕ} → Laid s ns long cursors h size k from → length ns ≤ k → Whole q → AllWellFormed n ls → Stands n s e v long (record { next = next_at cursors; stops = stop_at cursors; starts = h; active_ends = q }) size 0 (events ls)
-  all_laid {cursors = cursors} {k = k} g all w wf = record {
+  all_laid : {long : ℕ} {courses : List Course} {h q : Heap} {k from : ℕ} → Laid s ns long courses h k from → length ns ≤ k → q.len ≡ 0 → AllWellFormed n ls → Stands n s e v long (record { next = next_at courses; stops = stop_at courses; starts = h; active_ends = q }) (events ls)
+  all_laid {courses = courses} {k = k} g all z wf = record {
     cursors = fresh_all ls;
     few = omega (arith, g.few, all_of);
     past = (left_first n ls wf).0;
     lies = λ i h.
         let p = g.next_laid i (omega (arith, all_of)) in
-        let z : stop_at cursors i - next_at cursors i ≡ get_or ns i 0 = omega (arith, p, g.stop_laid i (omega (arith, all_of)), total_take i ns) in
-        as_cut i ∙ rw (z, p);
+        let d : stop_at courses i - next_at courses i ≡ get_or ns i 0 = omega (arith, p, g.stop_laid i (omega (arith, all_of)), total_take i ns) in
+        as_cut i ∙ rw (d, p);
     inside = λ i h. omega (arith, g.adds_up, g.stop_laid i (omega (arith, all_of)), total_upto (i + 1) ns);
     entered_starts = entered_same opened g.firsts;
-    entered_ends = entered_empty w (λ i. ap (λ c. c.active) (fresh_at i ls));
-    counted = sym (fresh_idle ls);
+    entered_ends = entered_empty z (λ i. ap (λ c. c.active) (fresh_at i ls));
+    counted = z ∙ sym (fresh_idle ls);
     is_left = (left_first n ls wf).1;
   }
     where
@@ -196,10 +200,10 @@ module _ {A : Type 0} (n : ℕ) (s e : ℕ → ℕ) (v : ℕ → A) (ns : List �
           go (inl h) = let l : length ns ≤ i = omega arith in rw (get_or-eq_default ns 0 l, le-ltb i k h)
           go (inr h) = rw (lt-ltb i k h)
 
-pub filled : {P : Type 0} (w : Width P) {starts : List P} {ns cursors start_keys start_lists : List ℕ} {size k from : ℕ} → Laid (keys w starts) ns (length starts) cursors (entries_of start_keys start_lists) size k from → length ns ≤ k → Fills w starts ns cursors start_keys start_lists (record { starts = size; active_ends = 0 })
-filled w {starts} {ns} g all end_keys end_lists whole ends values p q wf = record {
+pub filled : {P : Type 0} (w : Width P) {starts : List P} {ns : List ℕ} {s : Sweep} {k from : ℕ} → Laid (keys w starts) ns (length starts) s.courses s.starts k from → length ns ≤ k → s.active_ends.len ≡ 0 → Begins w starts ns s
+filled w {starts} {ns} g all empty ends values p q wf = record {
   starts_long = p;
   ends_long = q;
-  cursors_long = g.cursors_long;
-  stands = rw (sym p) (all_laid w.points (keys w starts) (keys w ends) (λ i. get_or values i (pos 0)) ns g all whole wf);
+  courses_long = g.courses_long;
+  stands = rw (sym p) (all_laid w.points (keys w starts) (keys w ends) (λ i. get_or values i (pos 0)) ns g all empty wf);
 }

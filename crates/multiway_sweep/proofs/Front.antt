@@ -3,7 +3,8 @@ use Prim.Native.Nat.{ℕ, zero, suc, ◌+◌, ◌*◌, ◌≤◌, ◌<◌}
 use mathlib.Core.Path.{◌≡◌, refl, sym, ap, ◌∙◌}
 use mathlib.Core.Logic.{◌⊎◌, inl, inr, ◌≢◌}
 use mathlib.Core.Bool.{Bool, true, false, cond, ◌&&◌}
-use mathlib.Core.Option.{Option, none, some}
+use Rattle.std.specs.declared.option.Option.{Option}
+use Rattle.std.specs.declared.option.Option.TheVariants.{None, Some}
 use mathlib.Core.List.{List, [], ◌∷◌, ◌++◌, append_assoc}
 use native.Mathlib.Omega.{arith}
 use lib.Dec.{ltb, eqb}
@@ -67,71 +68,71 @@ module _ {A : Type 0} where
     track_sort (e ∷ es) o i = track_put e (sort es) o (all_sort (Later e) es i.0) ∙ track_sort es (cond (mine e) (value_from e) o) i.1
 
     -- the events of other lists do not bear on it
-    track_listed : (k i : ℕ) (ls : List (List (Piece A))) → i < length ls → j ≡ k + i → track (listed k ls) none ≡ track (own j (get_or ls i [])) none
+    track_listed : (k i : ℕ) (ls : List (List (Piece A))) → i < length ls → j ≡ k + i → track (listed k ls) None ≡ track (own j (get_or ls i [])) None
     track_listed k i [] h q = absurd (omega arith)
     track_listed k zero (l ∷ ls) h q =
         let s : k ≡ j = omega arith in
-        track_append (own k l) (listed (suc k) ls) none
-        ∙ track_skip (listed (suc k) ls) (track (own k l) none) (all_map (λ e g r. absurd (omega arith)) (listed (suc k) ls) (listed_list (suc k) ls))
+        track_append (own k l) (listed (suc k) ls) None
+        ∙ track_skip (listed (suc k) ls) (track (own k l) None) (all_map (λ e g r. absurd (omega arith)) (listed (suc k) ls) (listed_list (suc k) ls))
         ∙ (rw s)
     track_listed k (suc i) (l ∷ ls) h q =
-        track_append (own k l) (listed (suc k) ls) none
-        ∙ ap (track (listed (suc k) ls)) (track_skip (own k l) none (all_map (λ e g r. absurd (omega arith)) (own k l) (own_list k l)))
+        track_append (own k l) (listed (suc k) ls) None
+        ∙ ap (track (listed (suc k) ls)) (track_skip (own k l) None (all_map (λ e g r. absurd (omega arith)) (own k l) (own_list k l)))
         ∙ track_listed (suc k) i ls (omega arith) (omega arith)
 
-    track_run : (es : List (Event A)) (act : List (Option A)) → j < length act → All (λ e. list e ≡ j → moment e < t) es → get_or (run es act) j none ≡ track es (get_or act j none)
+    track_run : (es : List (Event A)) (act : List (Option A)) → j < length act → All (λ e. list e ≡ j → moment e < t) es → get_or (run es act) j None ≡ track es (get_or act j None)
     track_run [] act h a = refl
     track_run (e ∷ es) act h a = track_run es (apply e act) (rw (length-set act (list e) (value_from e)) h) a.1 ∙ ap (track es) (go (eqb (list e) j) refl)
       where
-        go : (b : Bool) → eqb (list e) j ≡ b → get_or (apply e act) j none ≡ cond (b && ltb (moment e) t) (value_from e) (get_or act j none)
-        go true q = let s : list e ≡ j = eqb-true _ _ q in rw (lt-ltb (moment e) t (a.0 s), s, get_or-set_same act j (value_from e) none h)
-        go false q = get_or-set_other act (list e) j (value_from e) none (λ r. eqb-false _ _ q (sym r))
+        go : (b : Bool) → eqb (list e) j ≡ b → get_or (apply e act) j None ≡ cond (b && ltb (moment e) t) (value_from e) (get_or act j None)
+        go true q = let s : list e ≡ j = eqb-true _ _ q in rw (lt-ltb (moment e) t (a.0 s), s, get_or-set_same act j (value_from e) None h)
+        go false q = get_or-set_other act (list e) j (value_from e) None (λ r. eqb-false _ _ q (sym r))
 
   -- the events of a range: before t, both, the start alone, or neither have happened
   module _ (k t : ℕ) (x : Piece A) (xs : List (Piece A)) where
-    own_both : 2 * x.end + 1 < t → (o : Option A) → track k t (own k (x ∷ xs)) o ≡ track k t (own k xs) none
+    own_both : 2 * x.end + 1 < t → (o : Option A) → track k t (own k (x ∷ xs)) o ≡ track k t (own k xs) None
     own_both h o = ap (track k t (own k xs)) (step_yes k t (ends x.end k) _ refl h)
 
-    own_start : 2 * x.start + 0 < t → t ≤ 2 * x.end + 1 → (o : Option A) → track k t (own k (x ∷ xs)) o ≡ track k t (own k xs) (some x.value)
+    own_start : 2 * x.start + 0 < t → t ≤ 2 * x.end + 1 → (o : Option A) → track k t (own k (x ∷ xs)) o ≡ track k t (own k xs) (Some x.value)
     own_start h l o = ap (track k t (own k xs)) (step_no k t (ends x.end k) _ (λ q. l) ∙ step_yes k t (starts x.start k x.value) o refl h)
 
   own_late : (k t b n : ℕ) (l : List (Piece A)) (o : Option A) → Within b n l → t ≤ 2 * b → track k t (own k l) o ≡ o
   own_late k t b n l o w h = track_skip k t (own k l) o (all_map (λ e g q. omega arith) (own k l) (own_from k b n l w))
 
   -- after the starts of a point, and before its ends, a list has what it has at the point
-  own_at : (k c b n : ℕ) (l : List (Piece A)) → Within b n l → track k (2 * c + 1) (own k l) none ≡ at l c
+  own_at : (k c b n : ℕ) (l : List (Piece A)) → Within b n l → track k (2 * c + 1) (own k l) None ≡ at l c
   own_at k c b n [] w = refl
   own_at k c b n (x ∷ xs) w = go (own_at k c (x.end + 1) n xs w.2) (le_or_lt x.start c) (le_or_lt c x.end)
     where
-      go : track k (2 * c + 1) (own k xs) none ≡ at xs c → (x.start ≤ c) ⊎ (c < x.start) → (c ≤ x.end) ⊎ (x.end < c) → track k (2 * c + 1) (own k (x ∷ xs)) none ≡ at (x ∷ xs) c
+      go : track k (2 * c + 1) (own k xs) None ≡ at xs c → (x.start ≤ c) ⊎ (c < x.start) → (c ≤ x.end) ⊎ (x.end < c) → track k (2 * c + 1) (own k (x ∷ xs)) None ≡ at (x ∷ xs) c
       go rest (inr h) m =
           let w' : Within x.start n (x ∷ xs) = (omega arith, w.1, w.2) in
-          own_late k (2 * c + 1) x.start n (x ∷ xs) none w' (omega arith) ∙ sym (own_late k (2 * c + 1) (x.end + 1) n xs none w.2 (omega arith)) ∙ rest ∙ sym (at_before x xs c h)
-      go rest (inl h) (inl m) = own_start k (2 * c + 1) x xs (omega arith) (omega arith) none ∙ own_late k (2 * c + 1) (x.end + 1) n xs _ w.2 (omega arith) ∙ sym (at_in x xs c h m)
-      go rest (inl h) (inr m) = own_both k (2 * c + 1) x xs (omega arith) none ∙ rest ∙ sym (at_after x xs c m)
+          own_late k (2 * c + 1) x.start n (x ∷ xs) None w' (omega arith) ∙ sym (own_late k (2 * c + 1) (x.end + 1) n xs None w.2 (omega arith)) ∙ rest ∙ sym (at_before x xs c h)
+      go rest (inl h) (inl m) = own_start k (2 * c + 1) x xs (omega arith) (omega arith) None ∙ own_late k (2 * c + 1) (x.end + 1) n xs _ w.2 (omega arith) ∙ sym (at_in x xs c h m)
+      go rest (inl h) (inr m) = own_both k (2 * c + 1) x xs (omega arith) None ∙ rest ∙ sym (at_after x xs c m)
 
   -- a range's end finds its list with a value, and a start finds it without
-  own_ends : (k p b n : ℕ) (l : List (Piece A)) → Within b n l → In (ends p k) (own k l) → (v : A) × (track k (2 * p + 1) (own k l) none ≡ some v)
+  own_ends : (k p b n : ℕ) (l : List (Piece A)) → Within b n l → In (ends p k) (own k l) → (v : A) × (track k (2 * p + 1) (own k l) None ≡ Some v)
   own_ends k p b n [] w x'' = elim x'' [ ]
   own_ends k p b n (x ∷ xs) w (inl q) = let z : ◌≡◌ {A = ℕ} 0 1 = cc in absurd (omega arith)
   own_ends k p b n (x ∷ xs) w (inr (inl q)) =
       let s : p ≡ x.end = cc in
-      (x.value, own_start k (2 * p + 1) x xs (omega arith) (omega arith) none ∙ own_late k (2 * p + 1) (x.end + 1) n xs _ w.2 (omega arith))
+      (x.value, own_start k (2 * p + 1) x xs (omega arith) (omega arith) None ∙ own_late k (2 * p + 1) (x.end + 1) n xs _ w.2 (omega arith))
   own_ends k p b n (x ∷ xs) w (inr (inr i)) =
       let r = own_ends k p (x.end + 1) n xs w.2 i in
       let h = all_in (λ e. 2 * (x.end + 1) ≤ moment e) (ends p k) (own k xs) (own_from k (x.end + 1) n xs w.2) i in
-      (r.0, own_both k (2 * p + 1) x xs (omega arith) none ∙ r.1)
+      (r.0, own_both k (2 * p + 1) x xs (omega arith) None ∙ r.1)
 
-  own_starts : (k p b n : ℕ) (v : A) (l : List (Piece A)) → Within b n l → In (starts p k v) (own k l) → track k (2 * p) (own k l) none ≡ none
+  own_starts : (k p b n : ℕ) (v : A) (l : List (Piece A)) → Within b n l → In (starts p k v) (own k l) → track k (2 * p) (own k l) None ≡ None
   own_starts k p b n v [] w x'' = elim x'' [ ]
   own_starts k p b n v (x ∷ xs) w (inl q) =
       let s : p ≡ x.start = cc in
       let w' : Within x.start n (x ∷ xs) = (omega arith, w.1, w.2) in
-      own_late k (2 * p) x.start n (x ∷ xs) none w' (omega arith)
+      own_late k (2 * p) x.start n (x ∷ xs) None w' (omega arith)
   own_starts k p b n v (x ∷ xs) w (inr (inl q)) = let z : ◌≡◌ {A = ℕ} 0 1 = cc in absurd (omega arith)
   own_starts k p b n v (x ∷ xs) w (inr (inr i)) =
       let h = all_in (λ e. 2 * (x.end + 1) ≤ moment e) (starts p k v) (own k xs) (own_from k (x.end + 1) n xs w.2) i in
-      own_both k (2 * p) x xs (omega arith) none ∙ own_starts k p (x.end + 1) n v xs w.2 i
+      own_both k (2 * p) x xs (omega arith) None ∙ own_starts k p (x.end + 1) n v xs w.2 i
 
   run_append : (es fs : List (Event A)) (act : List (Option A)) → run (es ++ fs) act ≡ run fs (run es act)
   run_append [] fs act = refl
@@ -190,7 +191,7 @@ module _ {A : Type 0} where
 
     module _ {t : ℕ} {left : List (Event A)} {act : List (Option A)} (f : Front ls t left act) where
       pub front_length : length act ≡ length ls
-      front_length = ap length f.state ∙ run_length f.passed (nones ls) ∙ length-map ls (λ l. none)
+      front_length = ap length f.state ∙ run_length f.passed (nones ls) ∙ length-map ls (λ l. None)
 
       front_whole : Sorted (f.passed ++ left)
       front_whole = rw f.whole (events_sorted n ls wf)
@@ -203,24 +204,24 @@ module _ {A : Type 0} where
       front_move u h k = record { passed = f.passed; whole = f.whole; state = f.state; low = all_map (λ e g. omega arith) f.passed f.low; high = from_next u left front_sorted k }
 
       -- what one list has, where none of its events lies between those passed and u or between u and those left
-      front_entry : (j u : ℕ) → j < length ls → All (λ e. list e ≡ j → moment e < u) f.passed → All (λ e. list e ≡ j → u ≤ moment e) left → get_or act j none ≡ track j u (own j (get_or ls j [])) none
+      front_entry : (j u : ℕ) → j < length ls → All (λ e. list e ≡ j → moment e < u) f.passed → All (λ e. list e ≡ j → u ≤ moment e) left → get_or act j None ≡ track j u (own j (get_or ls j [])) None
       unfolding events
       front_entry j u h a b =
-          let m : length (nones ls) ≡ length ls = length-map ls (λ l. none) in
-          ap (λ z. get_or z j none) f.state
+          let m : length (nones ls) ≡ length ls = length-map ls (λ l. None) in
+          ap (λ z. get_or z j None) f.state
           ∙ track_run j u f.passed (nones ls) (omega arith) a
-          ∙ ap (track j u f.passed) (get_or-map (λ l. none) ls j [])
-          ∙ sym (track_skip j u left (track j u f.passed none) b)
-          ∙ sym (track_append j u f.passed left none)
-          ∙ ap (λ z. track j u z none) f.whole
-          ∙ track_sort j u (listed 0 ls) none (listed_in_turn 0 n ls wf)
+          ∙ ap (track j u f.passed) (get_or-map (λ l. None) ls j [])
+          ∙ sym (track_skip j u left (track j u f.passed None) b)
+          ∙ sym (track_append j u f.passed left None)
+          ∙ ap (λ z. track j u z None) f.whole
+          ∙ track_sort j u (listed 0 ls) None (listed_in_turn 0 n ls wf)
           ∙ track_listed j u 0 j ls h (omega arith)
 
       -- up to the next event the lists have what has passed
       pub front_column : (p : ℕ) → t ≤ 2 * p → Next (2 * p + 1) left → column ls p ≡ act
-      front_column p h k = ext_get_or none (column ls p) act (length-map ls (λ l. at l p) ∙ sym front_length) (λ j g. go j (omega (arith, length-map ls (λ l. at l p))))
+      front_column p h k = ext_get_or None (column ls p) act (length-map ls (λ l. at l p) ∙ sym front_length) (λ j g. go j (omega (arith, length-map ls (λ l. at l p))))
         where
-          go : (j : ℕ) → j < length ls → get_or (column ls p) j none ≡ get_or act j none
+          go : (j : ℕ) → j < length ls → get_or (column ls p) j None ≡ get_or act j None
           go j g =
               get_or-map (λ l. at l p) ls j []
               ∙ sym (own_at j p 0 n (get_or ls j []) (wf_at n j ls wf))
@@ -258,7 +259,7 @@ module _ {A : Type 0} where
       front_point = all_in (λ x. point x < n) e (own (list e) (get_or ls (list e) [])) (own_point (list e) 0 n (get_or ls (list e) []) (wf_at n (list e) ls wf)) front_own
 
       -- what the event's list has just before it
-      front_prior : get_or act (list e) none ≡ track (list e) (moment e) (own (list e) (get_or ls (list e) [])) none
+      front_prior : get_or act (list e) None ≡ track (list e) (moment e) (own (list e) (get_or ls (list e) [])) None
       front_prior =
           front_entry f (list e) (moment e) front_list
           (all_map prior f.passed (sorted_left f.passed e left (front_whole f)))
@@ -268,8 +269,8 @@ module _ {A : Type 0} where
           prior x b q = let ne : moment x ≢ moment e = λ r. omega (arith, b.tie r) in omega (arith, b.no_later)
 
     -- a start finds its list with nothing, an end finds it with a value
-    pub front_starts : {t p i : ℕ} {v : A} {left : List (Event A)} {act : List (Option A)} → Front ls t (starts p i v ∷ left) act → get_or act i none ≡ none
+    pub front_starts : {t p i : ℕ} {v : A} {left : List (Event A)} {act : List (Option A)} → Front ls t (starts p i v ∷ left) act → get_or act i None ≡ None
     front_starts {p = p} {i = i} {v = v} f = let z : 2 * p + 0 ≡ 2 * p = omega arith in front_prior f ∙ (rw z (own_starts i p 0 n v (get_or ls i []) (wf_at n i ls wf) (front_own f)))
 
-    pub front_ends : {t p i : ℕ} {left : List (Event A)} {act : List (Option A)} → Front ls t (ends p i ∷ left) act → (v : A) × (get_or act i none ≡ some v)
+    pub front_ends : {t p i : ℕ} {left : List (Event A)} {act : List (Option A)} → Front ls t (ends p i ∷ left) act → (v : A) × (get_or act i None ≡ Some v)
     front_ends {p = p} {i = i} f = let r = own_ends i p 0 n (get_or ls i []) (wf_at n i ls wf) (front_own f) in (r.0, front_prior f ∙ r.1)

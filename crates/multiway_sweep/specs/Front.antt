@@ -1,6 +1,7 @@
 -- What is active at the frontier: events stand at a moment, those passed happened by then, and each list has the value of its active range. Assumes nothing.
 use Rattle.std.specs.Prelude.{ℕ, ◌+◌, ◌≤◌, ◌≡◌, List, [], ◌∷◌, ◌++◌, set}
-use Rattle.std.proofs.Math.Option.{Option, none, some}
+use Rattle.std.specs.declared.option.Option.{Option}
+use Rattle.std.specs.declared.option.Option.TheVariants.{None, Some}
 use Rattle.rules.specs.Piece.{Piece}
 use Rattle.rules.specs.Sweep.{Event, starts, ends, point, kind, list, events, All}
 use Rattle.rules.specs.Proving.Below.{nones}
@@ -9,8 +10,8 @@ use Rattle.rules.specs.Proving.Moments.{moment}
 module _ {A : Type 0} where
   -- what the list has from the event on
   abbrev pub value_from : Event A → Option A
-  value_from (starts p i v) = some v
-  value_from (ends p i) = none
+  value_from (starts p i v) = Some v
+  value_from (ends p i) = None
 
   -- the first point whose column the event bears on
   abbrev pub edge : Event A → ℕ

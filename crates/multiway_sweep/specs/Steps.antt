@@ -1,37 +1,38 @@
 -- What a step of the sweep promises: the head of the events that are left, and what is left then is the tail. Assumes nothing.
-use Rattle.std.specs.Prelude.{ℕ, ◌+◌, ◌<◌, ◌≤◌, ◌≡◌, ◌⊎◌, Bool, true, false, List, [], ◌∷◌, ℤ, pos, length, get_or}
-use Rattle.heap.specs.Heap.{entries_of}
-use Rattle.rules.specs.Lists.{Width, Lent, Column, Columns, MutColumn, MutColumns, keys}
+use Rattle.std.specs.Prelude.{ℕ, ◌<◌, ◌≤◌, ◌≡◌, ◌⊎◌, Bool, true, false, List, [], ◌∷◌, ℤ, pos, length, get_or}
+use Rattle.std.specs.declared.option.Option.{Option}
+use Rattle.std.specs.declared.option.Option.TheVariants.{None, Some}
+use Rattle.heap.specs.Moved.{Top}
+use Rattle.heap.specs.declared.Entry.{Entry}
+use Rattle.rules.specs.Lists.{Width, Lent, keys}
 use Rattle.rules.specs.Sweep as rules
-use Rattle.multiway_sweep.specs.Stands.{View, Stands}
-use Rattle.multiway_sweep.specs.declared.Step.{Step}
-use Rattle.multiway_sweep.specs.declared.Step.TheVariants.{Start, End, Done}
-use Rattle.multiway_sweep.specs.declared.Sizes.{Sizes}
+use Rattle.multiway_sweep.specs.Stands.{View, Stands, Start as There}
+use Rattle.multiway_sweep.specs.declared.Course.{Course}
+use Rattle.multiway_sweep.specs.declared.Event.{Event}
+use Rattle.multiway_sweep.specs.declared.Event.TheVariants.{Start, End}
+use Rattle.multiway_sweep.specs.declared.Sweep.{Sweep}
 
--- whether the earliest end comes before the next start, where the heaps have so many entries
-pub record EndFirst (z : Sizes) (start end : ℕ) (r : Bool) : Type 0 where
-  pub yes : r ≡ true → (0 < z.active_ends) × ((z.starts ≡ 0) ⊎ (end < start))
-  pub no : r ≡ false → (z.active_ends ≡ 0) ⊎ ((0 < z.starts) × (start ≤ end))
+-- whether the earliest end comes before the next start, if there is one
+abbrev pub EndFirst : Option Entry → ℕ → Bool → Type 0
+EndFirst None end r = r ≡ true
+EndFirst (Some start) end r = (r ≡ true → end < start.key) × (r ≡ false → start.key ≤ end)
 
--- the sizes of the heaps after a step
-abbrev pub sizes_after : Step → Sizes → Sizes
-sizes_after (Start r list value z) before = z
-sizes_after (End key list z) before = z
-sizes_after Done before = before
+abbrev pub event_of : Event → rules.Event ℤ
+event_of (Start r list value) = rules.starts r.start list value
+event_of (End key list) = rules.ends key list
 
 -- a step that took no start
-abbrev pub NoStart : Step → Type 0
-NoStart (Start r list value z) = ⊥
-NoStart (End key list z) = Unit {0}
-NoStart Done = Unit {0}
+abbrev pub NoStart : Option Event → Type 0
+NoStart None = Unit {0}
+NoStart (Some (Start r list value)) = ⊥
+NoStart (Some (End key list)) = Unit {0}
 
 -- what holds of the event that a step took, and where it took none
-abbrev pub On : (rules.Event ℤ → Type 0) → Type 0 → Step → Type 0
-On Q none (Start r list value z) = Q (rules.starts r.start list value)
-On Q none (End key list z) = Q (rules.ends key list)
-On Q none Done = none
+abbrev pub On : (rules.Event ℤ → Type 0) → Type 0 → Option Event → Type 0
+On Q N None = N
+On Q N (Some e) = Q (event_of e)
 
--- the columns that a sweep reads: those of what is lent, and the parameters in a precondition and in a promise
+-- the columns that a sweep reads
 pub record Reading (P : Type 0) : Type 0 where
   pub starts : List P
   pub ends : List P
@@ -40,76 +41,59 @@ pub record Reading (P : Type 0) : Type 0 where
 abbrev pub reads : {P : Type 0} → Lent P → Reading P
 reads l = record { starts = l.starts; ends = l.ends; values = l.values }
 
-abbrev pub reading : {P : Type 0} → Column P → Column P → Column ℤ → Reading P
-reading s e v = record { starts = s.now; ends = e.now; values = v.now }
+-- a list's place
+abbrev pub course : List Course → ℕ → Course
+course courses k = get_or courses k (record { next = 0; stop = 0 })
 
-abbrev pub read : {P : Type 0} → Columns P → Columns P → Columns ℤ → Reading P
-read s e v = reading s.entry e.entry v.entry
+abbrev pub next_at : List Course → ℕ → ℕ
+next_at courses k = (course courses k).next
 
--- the arrays that hold where a sweep stands: of the list k the place of its next range is at k, the place past its last at 16 + k
-pub record Arrays : Type 0 where
-  pub cursors : List ℕ
-  pub start_keys : List ℕ
-  pub start_lists : List ℕ
-  pub end_keys : List ℕ
-  pub end_lists : List ℕ
+abbrev pub stop_at : List Course → ℕ → ℕ
+stop_at courses k = (course courses k).stop
 
--- the arrays in a precondition, and in a promise at entry and at exit
-abbrev pub arrays : MutColumn ℕ → MutColumn ℕ → MutColumn ℕ → MutColumn ℕ → MutColumn ℕ → Arrays
-arrays c sk sl ek el = record { cursors = c.now; start_keys = sk.now; start_lists = sl.now; end_keys = ek.now; end_lists = el.now }
+abbrev pub view : Sweep → View
+view s = record { next = next_at s.courses; stops = stop_at s.courses; starts = s.starts; active_ends = s.active_ends }
 
-abbrev pub arrays_before : MutColumns ℕ → MutColumns ℕ → MutColumns ℕ → MutColumns ℕ → MutColumns ℕ → Arrays
-arrays_before c sk sl ek el = arrays c.entry sk.entry sl.entry ek.entry el.entry
-
-abbrev pub arrays_after : MutColumns ℕ → MutColumns ℕ → MutColumns ℕ → MutColumns ℕ → MutColumns ℕ → Arrays
-arrays_after c sk sl ek el = arrays c.exit sk.exit sl.exit ek.exit el.exit
-
-abbrev pub next_at : List ℕ → ℕ → ℕ
-next_at cursors k = get_or cursors k 0
-
-abbrev pub stop_at : List ℕ → ℕ → ℕ
-stop_at cursors k = get_or cursors (16 + k) 0
-
-abbrev pub view : Arrays → View
-view a = record {
-  next = next_at a.cursors;
-  stops = stop_at a.cursors;
-  starts = entries_of a.start_keys a.start_lists;
-  active_ends = entries_of a.end_keys a.end_lists;
-}
-
--- a sweep with heaps of some sizes, and the events that are left
-pub record Sweeping {P : Type 0} (w : Width P) (c : Reading P) (a : Arrays) (z : Sizes) (rest : List (rules.Event ℤ)) : Type 0 where
+-- a sweep, and the events that are left
+pub record Sweeping {P : Type 0} (w : Width P) (c : Reading P) (s : Sweep) (rest : List (rules.Event ℤ)) : Type 0 where
   pub starts_long : length c.starts ≡ length c.values
   pub ends_long : length c.ends ≡ length c.values
-  pub cursors_long : length a.cursors ≡ 32
-  pub stands : Stands w.points (keys w c.starts) (keys w c.ends) (λ i. get_or c.values i (pos 0)) (length c.values) (view a) z.starts z.active_ends rest
+  pub courses_long : length s.courses ≡ 16
+  pub stands : Stands w.points (keys w c.starts) (keys w c.ends) (λ i. get_or c.values i (pos 0)) (length c.values) (view s) rest
 
 module _ {P : Type 0} (w : Width P) (c : Reading P) where
-  -- of the events that are left e is the first, and a sweep with heaps of some sizes has the others
-  abbrev pub Took : Arrays → rules.Event ℤ → Sizes → List (rules.Event ℤ) → Type 0
-  Took a e z left = (rest : List (rules.Event ℤ)) × (left ≡ e ∷ rest) × Sweeping w c a z rest
+  -- of the events that are left e is the first, and a sweep has the others
+  abbrev pub Took : Sweep → rules.Event ℤ → List (rules.Event ℤ) → Type 0
+  Took s e left = (rest : List (rules.Event ℤ)) × (left ≡ e ∷ rest) × Sweeping w c s rest
 
   -- a step took the first of the events that are left, or none is
-  abbrev pub Holds : Arrays → Step → List (rules.Event ℤ) → Type 0
-  Holds a (Start r list value z) left = Took a (rules.starts r.start list value) z left
-  Holds a (End key list z) left = Took a (rules.ends key list) z left
-  Holds a Done left = left ≡ []
+  abbrev pub Holds : Sweep → Option Event → List (rules.Event ℤ) → Type 0
+  Holds s None left = left ≡ []
+  Holds s (Some e) left = Took s (event_of e) left
 
   -- a range that starts has the end that stands at its list's next place
-  abbrev pub Reaches : Arrays → Step → Type 0
-  Reaches a (Start r list value z) = r.end ≡ keys w c.ends (next_at a.cursors list)
-  Reaches a (End key list z) = Unit {0}
-  Reaches a Done = Unit {0}
+  abbrev pub Reaches : Sweep → Option Event → Type 0
+  Reaches s None = Unit {0}
+  Reaches s (Some (Start r list value)) = r.end ≡ keys w c.ends (next_at s.courses list)
+  Reaches s (Some (End key list)) = Unit {0}
 
-  -- from the arrays a to the arrays b
-  abbrev pub Stepped : Arrays → Arrays → List (rules.Event ℤ) → Step → Type 0
-  Stepped a b rest s = Reaches a s × Holds b s rest
+  -- from the sweep s to the sweep r
+  abbrev pub Stepped : Sweep → Sweep → List (rules.Event ℤ) → Option Event → Type 0
+  Stepped s r rest t = Reaches s t × Holds r t rest
 
   -- a sweep has come somewhere, whatever events are left
-  abbrev pub Underway : Arrays → Sizes → Type 0
-  Underway a z = (rest : List (rules.Event ℤ)) × Sweeping w c a z rest
+  abbrev pub Underway : Sweep → Type 0
+  Underway s = (rest : List (rules.Event ℤ)) × Sweeping w c s rest
 
-  -- from the arrays a to the arrays b, with heaps of some sizes before it, a step takes what comes next, whatever events are left
-  abbrev pub TakesNext : Arrays → Arrays → Sizes → Step → Type 0
-  TakesNext a b z s = (rest : List (rules.Event ℤ)) → Sweeping w c a z rest → Stepped a b rest s
+  -- from the sweep s to the sweep r a step takes what comes next, whatever events are left
+  abbrev pub TakesNext : Sweep → Sweep → Option Event → Type 0
+  TakesNext s r t = (rest : List (rules.Event ℤ)) → Sweeping w c s rest → Stepped s r rest t
+
+  -- a start is the next event: it is on top of its heap, no end comes before it, and its range is there
+  pub record Due (s : Sweep) (start : Entry) : Type 0 where
+    pub first : Top s.starts (Some start)
+    pub early : (s.active_ends.len ≡ 0) ⊎ ((end : Entry) × Top s.active_ends (Some end) × (start.key ≤ end.key))
+    pub there : There (keys w c.starts) start.key start.list (length c.values) (view s)
+    pub starts_long : length c.starts ≡ length c.values
+    pub ends_long : length c.ends ≡ length c.values
+    pub courses_long : length s.courses ≡ 16

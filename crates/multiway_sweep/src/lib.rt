@@ -1,85 +1,148 @@
-// What a sweep over lists answers and holds, and what its step asks that touches no column.
+// The sweep over the starts and ends of the ranges of lists: how it begins, its step where it stands, and the same by value.
 
 #![tactic(auto)]
 
-ghost use Rattle.std.specs.Prelude.{◌≡◌, ◌<◌};
-ghost use Rattle.multiway_sweep.specs.Steps.{EndFirst, sizes_after};
+ghost use Rattle.std.specs.Prelude.{◌≤◌, ◌≡◌, length, None, Some};
+ghost use Rattle.rules.specs.Lists.{held, total};
+ghost use Rattle.multiway_sweep.specs.Steps.{reads, EndFirst, Underway, TakesNext, Due};
+ghost use Rattle.multiway_sweep.specs.Sweeps.{Advances, NewSweep};
 
-#[derive(Clone, Copy)]
+use heap::{Entry, Heap};
+use integer::{Integer, key_at};
+use rules::Lists;
+
+#[derive(Clone, Copy, Debug, PartialEq, Eq)]
 pub struct Range {
     pub start: u64,
     pub end: u64,
 }
 
-// How many entries the two heaps have.
-#[derive(Clone, Copy)]
-pub struct Sizes {
-    pub starts: usize,
-    pub active_ends: usize,
-}
-
-// The next event, one list's range starting or ending, with the sizes of the heaps after it, or nothing is left.
-#[derive(Clone, Copy)]
-pub enum Step {
+// One list's range starts or ends.
+#[derive(Clone, Copy, Debug, PartialEq, Eq)]
+pub enum Event {
     // The range, its list and its value.
-    Start(Range, usize, i32, Sizes),
+    Start(Range, usize, i32),
     // The last point of the list's active range, and the list.
-    End(u64, usize, Sizes),
-    Done,
+    End(u64, usize),
 }
 
-// Where a sweep stands: of the list k the place of its next range (the cursor at k) and the place past its last (at 16 + k), a
-// heap of the starts of the next ranges, and a heap of the ends of the active ones.
+// Of a list the place of its next range and the place past its last.
+#[derive(Clone, Copy)]
+struct Course {
+    next: usize,
+    stop: usize,
+}
+
+// Where a sweep stands: the courses of the lists, a heap of the starts of the next ranges, and a heap of the ends of the active ones.
 #[derive(Clone, Copy)]
 pub struct Sweep {
-    pub cursors: [usize; 32],
-    pub start_keys: [u64; 16],
-    pub start_lists: [u8; 16],
-    pub end_keys: [u64; 16],
-    pub end_lists: [u8; 16],
-    pub sizes: Sizes,
+    courses: [Course; 16],
+    starts: Heap,
+    active_ends: Heap,
 }
 
-// What a step of a sweep took, and the sweep after it.
+// What a step of a sweep took, if an event was left, and the sweep after it.
 #[derive(Clone, Copy)]
 pub struct Advance {
-    pub taken: Step,
+    pub taken: Option<Event>,
     pub sweep: Sweep,
 }
 
 // Whether the earliest end comes before the next start: it closes first exactly when it is less.
-pub fn end_first(sizes: Sizes, start: u64, end: u64) -> bool
-    ensures { EndFirst sizes start end result }
+pub fn end_first(next: Option<Entry>, end: u64) -> bool
+    ensures { EndFirst next end result }
 {
-    if sizes.active_ends == 0 {
-        return false;
+    match next {
+        Some(start) => end < start.key,
+        None => true,
     }
-    if sizes.starts == 0 {
-        return true;
-    }
-    end < start
 }
 
-// The place of a list, from its index as the heaps hold it, a byte.
-pub fn wide(list: u8) -> usize
-    ensures { (result ≡ list) × (result < 256) }
-{
-    list as usize
+impl Sweep {
+    // A sweep over lists.
+    pub fn new<P: Integer>(lent: Lists<'_, P>) -> Sweep
+        requires { (length lent.counts.now ≤ 16) × (total lent.counts.now ≡ length lent.starts.now) }
+        ensures { NewSweep P.width (held lent.entry) result }
+    {
+        let mut courses = [Course { next: 0, stop: 0 }; 16];
+        let mut starts = Heap::new();
+        let mut from: usize = 0;
+        for k in 0..lent.counts.len() {
+            let stop = from + lent.counts[k] as usize;
+            courses[k] = Course { next: from, stop };
+            if from < stop {
+                let key = key_at(lent.starts, from);
+                starts.push(Entry { key, list: k as u8 });
+            }
+            from = stop;
+        }
+        Sweep {
+            courses,
+            starts,
+            active_ends: Heap::new(),
+        }
+    }
+
+    // The next event. A range that starts becomes active, and its list goes on to the range after it. Inlined, since a caller would
+    // else read the event from memory before it is written there.
+    #[inline(always)]
+    pub fn step<P: Integer>(&mut self, lent: Lists<'_, P>) -> Option<Event>
+        requires { Underway P.width (reads (held lent)) self.old }
+        ensures next { TakesNext P.width (reads (held lent.entry)) self.old self.new result }
+        ensures stays { result ≡ None → self.new ≡ self.old }
+    {
+        if let Some(end) = self.active_ends.top() {
+            if end_first(self.starts.top(), end.key) {
+                self.active_ends.pop();
+                return Some(Event::End(end.key, end.list as usize));
+            }
+        }
+        let start = self.starts.top()?;
+        Some(self.begin(lent, start))
+    }
+
+    // Starts the next range of the list on top of the starts.
+    #[inline(always)]
+    fn begin<P: Integer>(&mut self, lent: Lists<'_, P>, start: Entry) -> Event
+        requires { Due P.width (reads (held lent)) self.old start }
+        ensures { TakesNext P.width (reads (held lent.entry)) self.old self.new (Some result) }
+    {
+        let list = start.list as usize;
+        let place = self.courses[list].next;
+        let after = place + 1;
+        let end = key_at(lent.ends, place);
+        let value = lent.values[place];
+        self.courses[list].next = after;
+        self.active_ends.push(Entry {
+            key: end,
+            list: start.list,
+        });
+        if after < self.courses[list].stop {
+            let key = key_at(lent.starts, after);
+            self.starts.replace_top(Entry {
+                key,
+                list: start.list,
+            });
+        } else {
+            self.starts.pop();
+        }
+        Event::Start(
+            Range {
+                start: start.key,
+                end,
+            },
+            list,
+            value,
+        )
+    }
 }
 
-// The sizes of the heaps after a step that had these before it.
-pub fn sizes_after(taken: Step, before: Sizes) -> Sizes
-    ensures { result ≡ sizes_after taken before }
+// The next event of a sweep, and the sweep after it.
+pub fn next<P: Integer>(lent: Lists<'_, P>, sweep: Sweep) -> Advance
+    requires { Underway P.width (reads (held lent)) sweep }
+    ensures { Advances P.width (reads (held lent.entry)) sweep result }
 {
-    match taken {
-        Step::Start(_, _, _, started) => Sizes {
-            starts: started.starts,
-            active_ends: started.active_ends,
-        },
-        Step::End(_, _, ended) => Sizes {
-            starts: ended.starts,
-            active_ends: ended.active_ends,
-        },
-        Step::Done => before,
-    }
+    let mut sweep = sweep;
+    let taken = sweep.step(lent);
+    Advance { taken, sweep }
 }

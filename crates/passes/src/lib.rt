@@ -5,32 +5,25 @@
 ghost use Rattle.std.specs.Prelude.{◌*◌, ◌-◌, ◌≤◌, ◌≡◌};
 ghost use Rattle.passes.specs.Conclusion.{concluded};
 
-use rules::Answer;
-
-// What a pass concludes: the answer, or nothing yet, and the next pass writes.
-#[derive(Clone, Copy)]
-pub enum Conclusion {
-    Answered(Answer),
-    Again,
-}
+use rules::Refusal;
 
 // The most pieces that so many ranges can give: room for them is sure to be enough.
 pub fn most(ranges: usize) -> usize
     requires { ranges ≤ 2048 }
     ensures { result ≡ 2 * ranges - 1 }
 {
-    if ranges == 0 { 0 } else { 2 * ranges - 1 }
+    (2 * ranges).saturating_sub(1)
 }
 
-// What is concluded from a pass that wrote its pieces or only counted them, with room for so many.
-pub fn conclude(wrote: bool, count: usize, room: usize) -> Conclusion
+// The answer from a pass that wrote its pieces or only counted them, with room for so many; there is none yet where the next pass writes.
+pub fn conclude(wrote: bool, count: usize, room: usize) -> Option<Result<usize, Refusal>>
     ensures { result ≡ concluded wrote count room }
 {
     if wrote {
-        return Conclusion::Answered(Answer::Done(count));
+        return Some(Ok(count));
     }
     if room < count {
-        return Conclusion::Answered(Answer::NoRoom(count));
+        return Some(Err(Refusal::NoRoom(count)));
     }
-    Conclusion::Again
+    None
 }

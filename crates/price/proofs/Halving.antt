@@ -4,7 +4,6 @@ use mathlib.Core.Path.{◌≡◌, refl, sym, ◌∙◌}
 use mathlib.Core.Logic.{◌⊎◌, inl, inr}
 use mathlib.Core.Bool.{cond}
 use native.Mathlib.Omega.{arith}
-use mir.Val.{bool_byte}
 use lib.Dec.{leb}
 use borrow.Author.Tests.{le-leb, lt-leb, lt-ltb, le-ltb}
 use Rattle.rules.proofs.At.{le_or_lt}
@@ -58,14 +57,6 @@ module _ (start : ℕ → ℕ) (p : ℕ) where
 
   begun_no : (i : ℕ) → p < start i → begun start p i ≡ 0
   begun_no i h = rw (lt-leb (start i) p h)
-
-  -- as the code tests it
-  pub tested : {i k : ℕ} → k ≡ start i → (bool_byte (leb k p) ≡ begun start p i) × (bool_byte (leb k p) ≤ 1)
-  tested {i} {k} e = go (le_or_lt k p)
-    where
-      go : (k ≤ p) ⊎ (p < k) → (bool_byte (leb k p) ≡ begun start p i) × (bool_byte (leb k p) ≤ 1)
-      go (inl h) = rw (le-leb k p h) (sym (begun_yes i (omega arith)), omega arith)
-      go (inr h) = rw (lt-leb k p h) (sym (begun_no i (omega arith)), omega arith)
 
   at_same : (i j : ℕ) → j ≡ i → start i ≤ p → start j ≤ p
   at_same i j e h = rw e h
@@ -145,16 +136,7 @@ pub record Halved (start : ℕ → ℕ) (p m all b n : ℕ) : Type 0 where
   pub inside_all : b + n ≤ all
   pub same : halve start p m all 0 all ≡ halve start p m n b n
 
--- what a loop keeps that counts: of the k places after b it has seen i, and c of them have begun
-pub record Counting (start : ℕ → ℕ) (p b k i c : ℕ) : Type 0 where
-  pub seen : i ≤ k
-  pub few : c ≤ i
-  pub is : c ≡ count start p b i
-
 module _ {start : ℕ → ℕ} {p : ℕ} where
-  pub whole : (m all : ℕ) → 0 < all → Halved start p m all 0 all
-  whole m all h = record { some = h; inside_all = omega arith; same = refl }
-
   module _ {m all b n : ℕ} (i : Halved start p m all b n) where
     -- a turn, with the start at the middle
     module _ (o : 0 < m) (h : m < n) (k : ℕ) (e : k ≡ start (b + n / 2)) where
@@ -166,22 +148,3 @@ module _ {start : ℕ → ℕ} {p : ℕ} where
 
     pub ended : n ≤ m → (b ≡ halve start p m all 0 all) × (b < all)
     ended h = (sym (i.same ∙ still start p m n b n h), omega (arith, i.some, i.inside_all))
-
-  pub none_seen : (b k : ℕ) → Counting start p b k 0 0
-  unfolding count
-  none_seen b k = record { seen = omega arith; few = omega arith; is = refl }
-
-  pub one_more : {b k i c r : ℕ} → Counting start p b k i c → i < k → (r ≡ begun start p (b + (i + 1))) × (r ≤ 1) → Counting start p b k (i + 1) (c + r)
-  unfolding count
-  one_more {b} {k} {i} {c} {r} w h e = let q : i + 1 ≡ suc i = omega arith in record { seen = omega arith; few = omega (arith, w.few, e.1); is = rw (e.0, w.is, q) }
-
-  pub all_seen : {b k i c : ℕ} → Counting start p b k i c → k ≤ i → (c ≡ count start p b k) × (c ≤ k)
-  all_seen {b} {k} {i} {c} w h = let q : i ≡ k = omega (arith, w.seen) in (rw q at w.is, omega (arith, w.few, w.seen))
-
--- of fewer than 16 by halving alone, of more by halving and counting
-module _ (start : ℕ → ℕ) (p : ℕ) where
-  pub found_few : {n r : ℕ} → n < 16 → r ≡ halve start p 1 n 0 n → r ≡ found start p n
-  found_few {n} {r} h e = rw (lt-ltb n 16 h) e
-
-  pub found_many : {n r b c : ℕ} → 16 ≤ n → r ≡ halve start p 16 n 0 n → b ≡ min r (n - 16) → c ≡ count start p b 15 → b + c ≡ found start p n
-  found_many {n} {r} {b} {c} h e f g = rw (le-ltb n 16 h, ← e, ← f, ← g)

@@ -1,6 +1,4 @@
--- The laws of the price at a point: Halving, Reading, Points and Batch.
-pub mod Sizes
+-- The laws of the price at a point: Halving, Reading and Batch.
 pub mod Halving
 pub mod Reading
-pub mod Points
 pub mod Batch

@@ -2,7 +2,8 @@
 use Prim.Native.Nat.{ℕ, zero, suc, ◌+◌, ◌≤◌, ◌<◌}
 use mathlib.Core.Path.{◌≡◌, refl, sym, ap, ◌∙◌}
 use mathlib.Core.Logic.{◌⊎◌, inl, inr}
-use mathlib.Core.Option.{Option, none, some}
+use Rattle.std.specs.declared.option.Option.{Option}
+use Rattle.std.specs.declared.option.Option.TheVariants.{None, Some}
 use mathlib.Core.List.{List, [], ◌∷◌, ◌++◌, map}
 use native.Mathlib.Omega.{arith}
 use lib.IntN.{ℤ, pos}
@@ -17,13 +18,13 @@ use Rattle.price.specs.Reading.{found, charge, piece, places, price_at}
 use Rattle.price.proofs.Halving.{Last, found_last}
 
 module _ {A : Type 0} (x : Piece A) (p : ℕ) where
-  charge_in : x.start ≤ p → p ≤ x.end → charge x p ≡ some x.value
+  charge_in : x.start ≤ p → p ≤ x.end → charge x p ≡ Some x.value
   charge_in h l = rw (le-leb x.start p h, le-leb p x.end l)
 
-  charge_before : p < x.start → charge x p ≡ none
+  charge_before : p < x.start → charge x p ≡ None
   charge_before h = rw (lt-leb x.start p h)
 
-  charge_after : x.start ≤ p → x.end < p → charge x p ≡ none
+  charge_after : x.start ≤ p → x.end < p → charge x p ≡ None
   charge_after h l = rw (le-leb x.start p h, lt-leb p x.end l)
 
 -- the ranges at places, which ascend
@@ -44,7 +45,7 @@ module _ {A : Type 0} (s e : ℕ → ℕ) (v : ℕ → A) where
       go (inl z) later = let q : j ≡ i = omega arith in let r = starts_from (e i + 1) d (suc i) n w.2 k (omega arith) (omega arith) in rw q (omega arith)
       go (inr z) later = later z
 
-  beyond : (p i n : ℕ) → ((j : ℕ) → i ≤ j → j < i + n → p < s j) → at (ranges s e v i n) p ≡ none
+  beyond : (p i n : ℕ) → ((j : ℕ) → i ≤ j → j < i + n → p < s j) → at (ranges s e v i n) p ≡ None
   beyond p i zero h = refl
   beyond p i (suc n) h = at_before (range s e v i) (ranges s e v (suc i) n) p (h i (omega arith) (omega arith)) ∙ beyond p (suc i) n (λ j l m. h j (omega arith) (omega arith))
 
@@ -91,22 +92,13 @@ module _ {P : Type 0} (w : Width P) where
 
   -- what is charged by the piece at the place found, of m places that count
   module _ (c : Merged P) (n p : ℕ) {m : ℕ} (e : m ≡ places c n) where
-    pub price_none : m ≡ 0 → none ≡ price_at w c n p
+    pub price_none : m ≡ 0 → None ≡ price_at w c n p
     unfolding price_at
     price_none z = let q : places c n ≡ 0 = omega arith in rw q
 
     pub price_found : {i : ℕ} {x : Option ℤ} → 0 < m → i ≡ found (keys w c.start) p m → x ≡ charge (piece w c i) p → x ≡ price_at w c n p
     unfolding price_at
     price_found h f q = rw (← e, lt-ltb 0 m h, ← f) q
-
-  -- what is charged by a piece is charged by the one at a place that is the same
-  pub charge_at : (c : Merged P) (i p : ℕ) {x : Range} {z : Option ℤ} → z ≡ charge x p → x ≡ piece w c i → z ≡ charge (piece w c i) p
-  charge_at c i p e q = e ∙ ap (λ y. charge y p) q
-
-  -- only the places that count matter
-  pub price_same : (c : Merged P) (n p : ℕ) {m : ℕ} {x : Option ℤ} → m ≡ places c n → x ≡ price_at w c m p → x ≡ price_at w c n p
-  unfolding price_at
-  price_same c n p {m} e f = let q : places c m ≡ places c n = omega arith in f ∙ rw q
 
   pub price_is_at : (c : Merged P) (n p d : ℕ) → Within 0 d (pieces c n) → price_at w c n p ≡ at (pieces c n) p
   price_is_at c n p d a = go (le_or_lt (places c n) 0)

@@ -3,7 +3,7 @@ use Rattle.std.specs.Prelude.{ℕ, List, [], ◌∷◌, ℤ, length}
 use Rattle.rules.specs.Lists.{Width, MutColumn, MutColumns}
 use Rattle.rules.specs.Answer.{Outcome, settle, least, laid}
 use Rattle.rules.specs.Merged.{Merged}
-use Rattle.rules.specs.declared.Judgement.TheVariants.{Sound}
+use Rattle.std.specs.declared.result.Result.TheVariants.{Ok}
 use Rattle.price.specs.Reading.{price_at, pence, presence}
 
 pub record Priced : Type 0 where
@@ -35,4 +35,4 @@ module _ {P : Type 0} (w : Width P) (c : Merged P) (n : ℕ) where
   -- a row for each point at the front of the columns, where there is room for all
   unfoldable pub prices_at : List P → Priced → Outcome Priced
   unfolding price_at
-  prices_at ps d = settle Sound (length ps) (room d) d (lay 0 ps d)
+  prices_at ps d = settle (Ok tt) (length ps) (room d) d (lay 0 ps d)

@@ -1,17 +1,16 @@
 -- The price at a point of columns with pieces: the place that is found, and what the piece there says of the point. Assumes nothing.
 use Rattle.std.specs.Prelude.{ℕ, zero, suc, ◌+◌, ◌-◌, ◌/◌, min, ◌≡◌, ltb, leb, ℤ, pos, get_or}
 use Rattle.std.proofs.Math.Bool.{cond}
-use Rattle.std.proofs.Math.Option.{Option, none, some}
+use Rattle.std.specs.declared.option.Option.{Option}
+use Rattle.std.specs.declared.option.Option.TheVariants.{None, Some}
 use Rattle.rules.specs.Piece.{Piece, Range, holds}
 use Rattle.rules.specs.Lists.{Width, keys, range}
-use Rattle.rules.specs.Merged.{Merged, room}
-use Rattle.price.specs.declared.Price.{Price}
-use Rattle.price.specs.declared.Price.TheVariants.{Nothing, Pence}
+use Rattle.rules.specs.Merged.{Merged, columns, room}
+use Rattle.price.specs.declared.Pieces.{Pieces}
 
--- none where nothing is on sale
-abbrev pub said : Price → Option ℤ
-said Nothing = none
-said (Pence v) = some v
+-- the columns that pieces hold
+abbrev pub held : {P : Type 0} → Pieces P → Merged P
+held c = columns c.start.now c.end.now c.value.now
 
 module _ (start : ℕ → ℕ) (p : ℕ) where
   -- so many halvings of the n places from b on, while they are more than m: to the upper half where its first start is not beyond p,
@@ -36,7 +35,7 @@ module _ (start : ℕ → ℕ) (p : ℕ) where
 
 -- what a piece says of a point
 abbrev pub charge : {A : Type 0} → Piece A → ℕ → Option A
-charge x p = cond (holds x p) (some x.value) none
+charge x p = cond (holds x p) (Some x.value) None
 
 -- the places that count: those below n that all three columns have
 abbrev pub places : {P : Type 0} → Merged P → ℕ → ℕ
@@ -52,16 +51,16 @@ module _ {P : Type 0} (w : Width P) where
   unfolding halve
   price_at c n p =
       let m = places c n in
-      cond (ltb 0 m) (charge (piece c (found (keys w c.start) p m)) p) none
+      cond (ltb 0 m) (charge (piece c (found (keys w c.start) p m)) p) None
 
 -- a price as it is written: its value, or 0, and whether there is one
 abbrev pub pence : Option ℤ → ℤ
-pence none = pos 0
-pence (some v) = v
+pence None = pos 0
+pence (Some v) = v
 
 abbrev pub presence : Option ℤ → ℕ
-presence none = 0
-presence (some v) = 1
+presence None = 0
+presence (Some v) = 1
 
 -- what a C function says of a price: 1 comes back and the value is written, or 0 and 0
 pub record Told (x : Option ℤ) (r : ℕ) (v : ℤ) : Type 0 where

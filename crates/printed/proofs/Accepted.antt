@@ -3,10 +3,10 @@ use Prim.Native.Nat.{ℕ}
 use mathlib.Core.Path.{◌≡◌, ◌∙◌}
 use mathlib.Core.List.{List}
 use lib.IntN.{ℤ}
+use Rattle.std.specs.declared.result.Result.TheVariants.{Ok}
 use Rattle.rules.specs.Lists.{instants}
 use Rattle.rules.specs.Answer.{judge}
 use Rattle.rules.specs.Refusals.{Formed}
-use Rattle.rules.specs.declared.Judgement.TheVariants.{Sound as SoundLists}
 use Rattle.rules.proofs.Refusals.{sound_formed}
 use Rattle.many_way_rules.specs.Sheet.{Tariff, flat, lend}
 use Rattle.tariff_file.specs.Layout.{Bytes}
@@ -23,7 +23,7 @@ module _ {b : List ℕ} {h : Head} {ls : List (Tariff ℤ)} (a : Accepted b h ls
   pub sound : Sound h ls
   sound = (accepted_written b h ls a.bytes a.reading).1
 
-  pub judged : judge instants (kind_of sound.task h.combiner) (lend ls) ≡ SoundLists
+  pub judged : judge instants (kind_of sound.task h.combiner) (lend ls) ≡ Ok tt
   judged = file_judged h ls sound ∙ ordered_sound ls (accepted_written b h ls a.bytes a.reading).2
 
   pub formed_lists : Formed instants (kind_of sound.task h.combiner) (lend ls)

@@ -1,11 +1,13 @@
 -- An operation over lists that nothing is refused of: its answer has a row for each piece of its rule. Assumes nothing.
 use Prim.Native.Nat.{ℕ, ◌+◌, ◌≤◌, ◌<◌}
 use mathlib.Core.Path.{◌≡◌, refl, ap, ◌∙◌}
-use mathlib.Core.Option.{Option, none, some}
+use Rattle.std.specs.declared.option.Option.{Option}
+use Rattle.std.specs.declared.option.Option.TheVariants.{None, Some}
 use mathlib.Core.List.{List, [], ◌∷◌, map}
 use native.Mathlib.Omega.{arith}
 use lib.IntN.{ℤ, pos}
 use lib.ListN.{length, get_or, length-replicate}
+use Rattle.std.specs.declared.result.Result.TheVariants.{Ok}
 use Rattle.rules.specs.Piece.{Piece, Range, AllWellFormed}
 use Rattle.rules.specs.Lists.{Lent, instants, keys, ranges, cut, lists, tracks, total}
 use Rattle.rules.specs.Answer.{Outcome, judge, leaves, front}
@@ -16,8 +18,6 @@ use Rattle.rules.specs.Paired.{Paired}
 use Rattle.rules.specs.TwoWay.{Match, side_value, presence, paired}
 use Rattle.rules.specs.Outcomes.{pairing}
 use Rattle.rules.specs.Refusals.{Formed}
-use Rattle.rules.specs.declared.Answer.TheVariants.{Done}
-use Rattle.rules.specs.declared.Judgement.TheVariants.{Sound}
 use Rattle.rules.specs.declared.Pairing.{Pairing}
 use Rattle.rules.specs.declared.Kind.TheVariants.{TwoWay}
 use Rattle.rules.proofs.Refusals.{fits, lists_formed}
@@ -40,8 +40,8 @@ row_of x = record { start = instants.point x.start; end = instants.point x.end; 
 
 -- a side's value by its place
 abbrev pub side_of : (ℕ → ℤ) → Option ℕ → Option ℤ
-side_of v none = none
-side_of v (some i) = some (v i)
+side_of v None = None
+side_of v (Some i) = Some (v i)
 
 abbrev pub pair_of : (ℕ → ℤ) → Piece Match → Pair
 pair_of v x = record { start = instants.point x.start; end = instants.point x.end; left = side_of v x.value.0; right = side_of v x.value.1 }
@@ -50,31 +50,31 @@ pair_of v x = record { start = instants.point x.start; end = instants.point x.en
 module _ (xs : List Range) (c : Merged ℤ) (s : length xs ≤ length c.start) (e : length xs ≤ length c.end) (v : length xs ≤ length c.value) where
   pub rows_laid : rows (merged_columns.lay instants 0 xs c) (length xs) ≡ map row_of xs
   rows_laid =
-      let none : Range = record { start = 0; end = 0; value = pos 0 } in
-      firsts_map row_of (row_at (merged_columns.lay instants 0 xs c)) xs none
+      let None : Range = record { start = 0; end = 0; value = pos 0 } in
+      firsts_map row_of (row_at (merged_columns.lay instants 0 xs c)) xs None
       (λ i h j.
       record {
-        start = (front_has (λ x. instants.point x.start) xs c.start s i none h).there (pos 0) j;
-        end = (front_has (λ x. instants.point x.end) xs c.end e i none h).there (pos 0) j;
-        value = (front_has (λ x. x.value) xs c.value v i none h).there (pos 0) j;
+        start = (front_has (λ x. instants.point x.start) xs c.start s i None h).there (pos 0) j;
+        end = (front_has (λ x. instants.point x.end) xs c.end e i None h).there (pos 0) j;
+        value = (front_has (λ x. x.value) xs c.value v i None h).there (pos 0) j;
       })
 
 -- a side from its value and its presence
 left_is : (v : ℕ → ℤ) (m : Match) → present (left_there (presence m)) (side_value v m.0) ≡ side_of v m.0
-left_is v (none, none) = refl
-left_is v (some i, none) = refl
-left_is v (none, some j) = refl
-left_is v (some i, some j) = refl
+left_is v (None, None) = refl
+left_is v (Some i, None) = refl
+left_is v (None, Some j) = refl
+left_is v (Some i, Some j) = refl
 
 right_is : (v : ℕ → ℤ) (m : Match) → present (right_there (presence m)) (side_value v m.1) ≡ side_of v m.1
-right_is v (none, none) = refl
-right_is v (some i, none) = refl
-right_is v (none, some j) = refl
-right_is v (some i, some j) = refl
+right_is v (None, None) = refl
+right_is v (Some i, None) = refl
+right_is v (None, Some j) = refl
+right_is v (Some i, Some j) = refl
 
 module _ (v : ℕ → ℤ) (xs : List (Piece Match)) (c : Paired ℤ) (room : length xs ≤ paired_columns.room c) where
   abbrev nothing : Piece Match
-  nothing = record { start = 0; end = 0; value = (none, none) }
+  nothing = record { start = 0; end = 0; value = (None, None) }
 
   -- what a column has at a place
   has : {A : Type 0} (f : Piece Match → A) (old : List A) → length xs ≤ length old → (d : A) (i : ℕ) → i < length xs → get_or (front f xs old) i d ≡ f (get_or xs i nothing)
@@ -109,14 +109,14 @@ module _ (h : Head) (l : Lent ℤ) where
   merge_few : (o : Operation) → Formed instants (kind_of o) l → length (merged o instants.points (lists instants l)) ≤ 4095
   merge_few o f = merged_enough o instants.points (lists instants l) (lists_formed f) (omega (arith, lists_size instants l, f.agree.adds_up, f.ranges_few))
 
-  pub merge_done : (o : Operation) → judge instants (kind_of o) l ≡ Sound → Formed instants (kind_of o) l →
-      let xs = merged o instants.points (lists instants l) in merging instants o l merge_room ≡ leaves (Done (length xs)) (merged_columns.lay instants 0 xs merge_room)
+  pub merge_done : (o : Operation) → judge instants (kind_of o) l ≡ Ok tt → Formed instants (kind_of o) l →
+      let xs = merged o instants.points (lists instants l) in merging instants o l merge_room ≡ leaves (Ok (length xs)) (merged_columns.lay instants 0 xs merge_room)
   unfolding merging
   merge_done o j f =
       let xs = merged o instants.points (lists instants l) in
       rw j (fits (length xs) (merged_columns.room merge_room) merge_room (merged_columns.lay instants 0 xs merge_room) (omega (arith, merge_room_is, merge_few o f)))
 
-  pub merged_answered : (o : Operation) → judge instants (kind_of o) l ≡ Sound → Formed instants (kind_of o) l →
+  pub merged_answered : (o : Operation) → judge instants (kind_of o) l ≡ Ok tt → Formed instants (kind_of o) l →
       merged_answer h o l ≡ text.merged h.operation h.combiner (length l.counts) (map row_of (merged o instants.points (lists instants l)))
   unfolding merged_answer
   merged_answered o j f =
@@ -145,14 +145,14 @@ module _ (h : Head) (l : Lent ℤ) where
           omega (arith, paired_room p instants.points (ranges s n (λ i. i) 0 a) (ranges s n (λ i. i) (0 + a) c) w, length_ranges s n (λ i. i) 0 a, length_ranges s n (λ i. i) (0 + a) c)
       go (a ∷ c ∷ d ∷ ns) e w t = absurd (omega arith)
 
-  pub pair_done : (p : Pairing) → judge instants TwoWay l ≡ Sound → Formed instants TwoWay l →
-      let xs = paired p instants.points (tracks instants l) in pairing instants p l pair_room ≡ leaves (Done (length xs)) (paired_columns.lay instants place_value 0 xs pair_room)
+  pub pair_done : (p : Pairing) → judge instants TwoWay l ≡ Ok tt → Formed instants TwoWay l →
+      let xs = paired p instants.points (tracks instants l) in pairing instants p l pair_room ≡ leaves (Ok (length xs)) (paired_columns.lay instants place_value 0 xs pair_room)
   unfolding pairing
   pair_done p j f =
       let xs = paired p instants.points (tracks instants l) in
       rw j (fits (length xs) (paired_columns.room pair_room) pair_room (paired_columns.lay instants place_value 0 xs pair_room) (omega (arith, pair_room_is, pair_few p f)))
 
-  pub paired_answered : (p : Pairing) → judge instants TwoWay l ≡ Sound → Formed instants TwoWay l →
+  pub paired_answered : (p : Pairing) → judge instants TwoWay l ≡ Ok tt → Formed instants TwoWay l →
       paired_answer h p l ≡ text.paired h.operation h.combiner (length l.counts) (map (pair_of place_value) (paired p instants.points (tracks instants l)))
   unfolding paired_answer
   paired_answered p j f =

@@ -3,17 +3,18 @@ use Prim.Native.Nat.{ℕ, ◌<◌}
 use mathlib.Core.Path.{◌≡◌, refl, sym, ap, subst, ◌∙◌}
 use mathlib.Core.Logic.{◌↔◌, ◌≢◌, ◌⊎◌, inl, inr}
 use mathlib.Core.Bool.{true}
-use mathlib.Core.Option.{Option, none, some}
-use mathlib.Core.List.{List, [], ◌∷◌, map}
+use Rattle.std.specs.declared.option.Option.{Option}
+use Rattle.std.specs.declared.option.Option.TheVariants.{None, Some}
+use mathlib.Core.List.{List, map, map-map}
 use native.Mathlib.Omega.{arith}
 use lib.IntN.{ℤ}
 use lib.ListN.{length, length-map}
 use borrow.Author.Tests.{eqb-true}
 use Rattle.rules.specs.Piece.{Range, column, AllWellFormed}
 use Rattle.rules.specs.Lists.{instants, lists, tracks}
-use Rattle.rules.specs.Answer.{code_of}
-use Rattle.rules.specs.declared.Answer.{Answer}
-use Rattle.rules.specs.declared.Answer.TheVariants.{Backward, Overlap}
+use Rattle.rules.specs.Answer.{refusal_code}
+use Rattle.rules.specs.declared.Refusal.{Refusal as CallRefusal}
+use Rattle.rules.specs.declared.Refusal.TheVariants.{Backward, Overlap}
 use Rattle.rules.specs.Merged.{Merged}
 use Rattle.rules.specs.TwoWay.{paired}
 use Rattle.rules.specs.declared.Pairing.{Pairing}
@@ -45,14 +46,14 @@ use Rattle.printed.proofs.Answers.{row_of, pair_of, place_value, merged_answered
 
 -- the many-way operation that a task is, with its combiner
 abbrev pub many_way : Task → ℕ → Option Operation
-many_way (Pair p) c = none
-many_way (Merge a) c = some (Join a c)
-many_way (Choose p a) c = some (Select p a)
+many_way (Pair p) c = None
+many_way (Merge a) c = Some (Join a c)
+many_way (Choose p a) c = Some (Select p a)
 
 abbrev pub two_way : Task → Option Pairing
-two_way (Pair p) = some p
-two_way (Merge a) = none
-two_way (Choose p a) = none
+two_way (Pair p) = Some p
+two_way (Merge a) = None
+two_way (Choose p a) = None
 
 module _ {b : List ℕ} {h : Head} {ls : List (Tariff ℤ)} (a : Accepted b h ls) where
   performs : answered (read b) ≡ performed h (sound a).task (lend ls)
@@ -62,11 +63,11 @@ module _ {b : List ℕ} {h : Head} {ls : List (Tariff ℤ)} (a : Accepted b h ls
   long = length-map ls length
 
   -- a file of a two-way operation prints a row for each of its pieces
-  module _ (p : Pairing) (m : two_way (sound a).task ≡ some p) where
+  module _ (p : Pairing) (m : two_way (sound a).task ≡ Some p) where
     as_pair : (sound a).task ≡ Pair p
     as_pair = go (sound a).task m
       where
-        go : (t : Task) → two_way t ≡ some p → t ≡ Pair p
+        go : (t : Task) → two_way t ≡ Some p → t ≡ Pair p
         go (Pair q) e = let s : q ≡ p = cc in ap Pair s
         go (Merge a) e = absurd (let no : ◌≡◌ {A = ℕ} 0 1 = cc in omega arith)
         go (Choose q a) e = absurd (let no : ◌≡◌ {A = ℕ} 0 1 = cc in omega arith)
@@ -91,14 +92,14 @@ module _ {b : List ℕ} {h : Head} {ls : List (Tariff ℤ)} (a : Accepted b h ls
     no_combiner = eqb-true h.combiner 0 (subst (λ t. combiner_right t h.combiner ≡ true) as_pair (sound a).right_combiner)
 
   -- and one of a many-way operation
-  module _ (o : Operation) (m : many_way (sound a).task h.combiner ≡ some o) where
+  module _ (o : Operation) (m : many_way (sound a).task h.combiner ≡ Some o) where
     abbrev pub pieces : List Range
     pieces = merged o instants.points (lists instants (lend ls))
 
     same_kind : kind_of (sound a).task h.combiner ≡ operations.kind_of o
     same_kind = go (sound a).task m
       where
-        go : (t : Task) → many_way t h.combiner ≡ some o → kind_of t h.combiner ≡ operations.kind_of o
+        go : (t : Task) → many_way t h.combiner ≡ Some o → kind_of t h.combiner ≡ operations.kind_of o
         go (Pair q) e = absurd (let no : ◌≡◌ {A = ℕ} 0 1 = cc in omega arith)
         go (Merge a) e = let s : Join a h.combiner ≡ o = cc in ap operations.kind_of s
         go (Choose q a) e = let s : Select q a ≡ o = cc in ap operations.kind_of s
@@ -106,7 +107,7 @@ module _ {b : List ℕ} {h : Head} {ls : List (Tariff ℤ)} (a : Accepted b h ls
     as_many : performed h (sound a).task (lend ls) ≡ merged_answer h o (lend ls)
     as_many = go (sound a).task m
       where
-        go : (t : Task) → many_way t h.combiner ≡ some o → performed h t (lend ls) ≡ merged_answer h o (lend ls)
+        go : (t : Task) → many_way t h.combiner ≡ Some o → performed h t (lend ls) ≡ merged_answer h o (lend ls)
         go (Pair q) e = absurd (let no : ◌≡◌ {A = ℕ} 0 1 = cc in omega arith)
         go (Merge a) e = let s : Join a h.combiner ≡ o = cc in ap (λ (o : Operation). merged_answer h o (lend ls)) s
         go (Choose q a) e = let s : Select q a ≡ o = cc in ap (λ (o : Operation). merged_answer h o (lend ls)) s
@@ -124,19 +125,15 @@ module _ {b : List ℕ} {h : Head} {ls : List (Tariff ℤ)} (a : Accepted b h ls
         ∙ ap (λ (n : ℕ). text.merged h.operation h.combiner n (map row_of pieces)) long)
 
 -- rows as columns
-map_map : {A B C : Type 0} (g : B → C) (f : A → B) (xs : List A) → map g (map f xs) ≡ map (λ x. g (f x)) xs
-map_map g f [] = refl
-map_map {C = C} g f (x ∷ xs) = ap (λ (l : List C). g (f x) ∷ l) (map_map g f xs)
-
 abbrev columns : List Row → Merged ℤ
 columns rs = record { start = map (λ r. r.start) rs; end = map (λ r. r.end) rs; value = map (λ r. r.value) rs }
 
 columns_of : (xs : List Range) → columns (map row_of xs) ≡ rows faithful_instants xs
-columns_of xs j = record { start = map_map (λ (r : Row). r.start) row_of xs j; end = map_map (λ (r : Row). r.end) row_of xs j; value = map_map (λ (r : Row). r.value) row_of xs j }
+columns_of xs j = record { start = map-map (λ (r : Row). r.start) row_of xs j; end = map-map (λ (r : Row). r.end) row_of xs j; value = map-map (λ (r : Row). r.value) row_of xs j }
 
 -- two files of many-way operations print the same rows exactly when their rules agree at every point, however their lists were cut up
 module _ {b b' : List ℕ} {h h' : Head} {ls ls' : List (Tariff ℤ)} (a : Accepted b h ls) (a' : Accepted b' h' ls') where
-  module _ (o o' : Operation) (m : many_way (sound a).task h.combiner ≡ some o) (m' : many_way (sound a').task h'.combiner ≡ some o') where
+  module _ (o o' : Operation) (m : many_way (sound a).task h.combiner ≡ Some o) (m' : many_way (sound a').task h'.combiner ≡ Some o') where
     told_rows : lines.text (map row (map row_of (pieces a o m))) ≡ lines.text (map row (map row_of (pieces a' o' m'))) → pieces a o m ≡ pieces a' o' m'
     told_rows e =
         let r = (rows_tell (map row_of (pieces a o m)) (map row_of (pieces a' o' m'))).0 e in
@@ -152,7 +149,7 @@ module _ {b b' : List ℕ} {h h' : Head} {ls ls' : List (Tariff ℤ)} (a : Accep
         (λ e. same.0 (told_rows e), λ e. ap (λ (xs : List Range). lines.text (map row (map row_of xs))) (same.1 e))
 
   -- two of two-way operations, exactly when they have the same pieces; of one operation, so do their whole texts
-  module _ (p p' : Pairing) (m : two_way (sound a).task ≡ some p) (m' : two_way (sound a').task ≡ some p') where
+  module _ (p p' : Pairing) (m : two_way (sound a).task ≡ Some p) (m' : two_way (sound a').task ≡ Some p') where
     pub same_pairs : (lines.text (map pair (valued a p m)) ≡ lines.text (map pair (valued a' p' m'))) ↔ (valued a p m ≡ valued a' p' m')
     same_pairs = pairs_tell (valued a p m) (valued a' p' m')
 
@@ -199,11 +196,11 @@ module _ (b : List ℕ) (y : Bytes b) (c n : ℕ) where
   pub no_code_4_or_8 : answered (read b) ≡ text.refused c n → (c ≢ 4) × (c ≢ 8)
   no_code_4_or_8 q = go (read b) refl q
     where
-      code : (a : Answer) → ((i : ℕ) × ((a ≡ Backward i) ⊎ (a ≡ Overlap i))) → code_of a ≡ c → (c ≢ 4) × (c ≢ 8)
-      code a (i, inl e) h = let z = ap code_of e in (λ f. omega arith, λ f. omega arith)
-      code a (i, inr e) h = let z = ap code_of e in (λ f. omega arith, λ f. omega arith)
+      code : (a : CallRefusal) → ((i : ℕ) × ((a ≡ Backward i) ⊎ (a ≡ Overlap i))) → refusal_code a ≡ c → (c ≢ 4) × (c ≢ 8)
+      code a (i, inl e) h = let z = ap refusal_code e in (λ f. omega arith, λ f. omega arith)
+      code a (i, inr e) h = let z = ap refusal_code e in (λ f. omega arith, λ f. omega arith)
 
       go : (r : Reading) → read b ≡ r → answered r ≡ text.refused c n → (c ≢ 4) × (c ≢ 8)
       go (file.refused r) e q = let z : file.code_of r ≡ c = cc in (λ f. (codes r).0 (z ∙ f), λ f. (codes r).1 (z ∙ f))
-      go (ill_formed a) e q = let z : code_of a ≡ c = cc in code a (five_or_six b y a e) z
+      go (ill_formed a) e q = let z : refusal_code a ≡ c = cc in code a (five_or_six b y a e) z
       go (accepted h ls) e q = absurd (accepted_joined (record { bytes = y; reading = e }) (ap answered e ∙ q))

@@ -1,12 +1,14 @@
 -- The printed text of a tariff file: it is read, joined in columns with room for 4,095 pieces, and printed. Assumes nothing.
-use Rattle.std.specs.Prelude.{ℕ, cond, List, eqb, ℤ, pos, length, replicate}
-use Rattle.std.proofs.Math.Option.{Option, none, some}
+use Rattle.std.specs.Prelude.{ℕ, List, ℤ, pos, length, replicate}
+use Rattle.std.specs.declared.option.Option.{Option}
+use Rattle.std.specs.declared.option.Option.TheVariants.{None, Some}
+use Rattle.std.specs.declared.result.Result.TheVariants.{Ok, Err}
 use Rattle.rules.specs.Lists.{Lent, instants}
-use Rattle.rules.specs.Answer.{code_of, number_of}
+use Rattle.rules.specs.Answer.{refusal_code, refusal_number}
+use Rattle.rules.specs.Answer.{Answer as Answered}
 use Rattle.rules.specs.Merged.{Merged}
 use Rattle.rules.specs.Paired.{Paired}
 use Rattle.rules.specs.Outcomes.{pairing}
-use Rattle.rules.specs.declared.Answer.{Answer as Answered}
 use Rattle.rules.specs.declared.Pairing.{Pairing}
 use Rattle.many_way_rules.specs.Sheet.{lend}
 use Rattle.many_way_rules.specs.Outcomes.{merging}
@@ -25,9 +27,10 @@ merge_room = record { start = replicate 4095 (pos 0); end = replicate 4095 (pos 
 abbrev pub pair_room : Paired ℤ
 pair_room = record { start = replicate 4095 (pos 0); end = replicate 4095 (pos 0); left = replicate 4095 (pos 0); right = replicate 4095 (pos 0); presence = replicate 4095 0 }
 
--- the pieces where code 0 is answered, whose number they are; else the code and its number
+-- the pieces where they are counted, else the refusal's code and number
 abbrev pub told : Answered → (ℕ → Answer) → Answer
-told a done = cond (eqb (code_of a) 0) (done (number_of a)) (refused (code_of a) (number_of a))
+told (Ok n) done = done n
+told (Err r) done = refused (refusal_code r) (refusal_number r)
 
 abbrev pub head : ℕ → ℕ → Head
 head o c = record { operation = o; combiner = c }
@@ -53,12 +56,12 @@ module _ (h : Head) where
 
   -- a file that is accepted has a known operation
   abbrev pub asked : Option Task → Lent ℤ → Answer
-  asked none l = refused 13 0
-  asked (some t) l = performed t l
+  asked None l = refused 13 0
+  asked (Some t) l = performed t l
 
 abbrev pub answered : Reading → Answer
 answered (file.refused r) = refused (file.code_of r) (file.number_of r)
-answered (ill_formed a) = refused (code_of a) (number_of a)
+answered (ill_formed r) = refused (refusal_code r) (refusal_number r)
 answered (accepted h ls) = asked h (task_of h.operation) (lend ls)
 
 unfoldable pub printed : List ℕ → List ℕ

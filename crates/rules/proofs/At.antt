@@ -2,7 +2,7 @@
 use Prim.Native.Nat.{ℕ, ◌+◌, ◌≤◌, ◌<◌}
 use mathlib.Core.Path.{◌≡◌, refl, ◌∙◌}
 use mathlib.Core.Bool.{Bool, true, false, ◌&&◌}
-use mathlib.Core.Option.{none, some}
+use Rattle.std.specs.declared.option.Option.TheVariants.{None, Some}
 use mathlib.Core.List.{List, [], ◌∷◌}
 use native.Mathlib.Omega.{arith}
 use lib.Dec.{leb}
@@ -15,7 +15,7 @@ and_false true = refl
 and_false false = refl
 
 module _ {A : Type 0} (x : Piece A) (xs : List (Piece A)) where
-  pub at_in : (p : ℕ) → x.start ≤ p → p ≤ x.end → at (x ∷ xs) p ≡ some x.value
+  pub at_in : (p : ℕ) → x.start ≤ p → p ≤ x.end → at (x ∷ xs) p ≡ Some x.value
   at_in p h l = rw (le-leb x.start p h, le-leb p x.end l)
 
   pub at_before : (p : ℕ) → p < x.start → at (x ∷ xs) p ≡ at xs p
@@ -29,11 +29,11 @@ module _ {A : Type 0} where
   within_le c d [] w = w
   within_le c d (x ∷ xs) w = omega (arith, within_le (x.end + 1) d xs w.2)
 
-  pub at_early : (c d : ℕ) (xs : List (Piece A)) → Within c d xs → (p : ℕ) → p < c → at xs p ≡ none
+  pub at_early : (c d : ℕ) (xs : List (Piece A)) → Within c d xs → (p : ℕ) → p < c → at xs p ≡ None
   at_early c d [] w p h = refl
   at_early c d (x ∷ xs) w p h = at_before x xs p (omega arith) ∙ at_early (x.end + 1) d xs w.2 p (omega arith)
 
-  pub at_late : (c d : ℕ) (xs : List (Piece A)) → Within c d xs → (p : ℕ) → d ≤ p → at xs p ≡ none
+  pub at_late : (c d : ℕ) (xs : List (Piece A)) → Within c d xs → (p : ℕ) → d ≤ p → at xs p ≡ None
   at_late c d [] w p h = refl
   at_late c d (x ∷ xs) w p h = at_after x xs p (omega (arith, within_le (x.end + 1) d xs w.2)) ∙ at_late (x.end + 1) d xs w.2 p (omega arith)
 

@@ -3,7 +3,7 @@ use Prim.Native.Nat.{ℕ, ◌+◌, ◌≤◌, ◌<◌}
 use mathlib.Core.Path.{◌≡◌, refl, sym, ◌∙◌}
 use mathlib.Core.Logic.{◌⊎◌, inl, inr}
 use mathlib.Core.Bool.{Bool, true, false, cond}
-use mathlib.Core.Option.{none}
+use Rattle.std.specs.declared.option.Option.TheVariants.{None}
 use mathlib.Core.List.{List, [], ◌∷◌}
 use native.Mathlib.Omega.{arith}
 use lib.Dec.{ltb, eqb}
@@ -189,7 +189,7 @@ module _ {A : Type 0} where
   column_steady c d p h m (l ∷ ls) e = λ i. at_steady c d p h m l e.0 i ∷ column_steady c d p h m ls e.1 i
 
   -- every edge is on one side of p
-  at_aside : (p : ℕ) (l : List (Piece A)) → Edges (λ k. p < k) l ⊎ Edges (λ k. k ≤ p) l → at l p ≡ none
+  at_aside : (p : ℕ) (l : List (Piece A)) → Edges (λ k. p < k) l ⊎ Edges (λ k. k ≤ p) l → at l p ≡ None
   at_aside p [] e = refl
   at_aside p (x ∷ xs) (inl e) = at_before x xs p e.0 ∙ at_aside p xs (inl e.2)
   at_aside p (x ∷ xs) (inr e) = at_after x xs p (omega arith) ∙ at_aside p xs (inr e.2)

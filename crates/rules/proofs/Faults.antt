@@ -3,20 +3,20 @@ use Prim.Native.Nat.{ℕ, zero, suc, ◌+◌, ◌-◌, ◌≤◌, ◌<◌}
 use mathlib.Core.Path.{◌≡◌, refl, sym, ◌∙◌}
 use mathlib.Core.Logic.{◌⊎◌, inl, inr, ⊎_elim}
 use mathlib.Core.Bool.{Bool, true, false, not, ◌&&◌, true≢false}
-use mathlib.Core.Option.{Option, none, some}
+use Rattle.std.specs.declared.option.Option.{Option}
+use Rattle.std.specs.declared.option.Option.TheVariants.{None, Some}
 use mathlib.Core.List.{List, [], ◌∷◌}
 use native.Mathlib.Omega.{arith}
 use lib.Dec.{ltb, leb, eqb}
 use borrow.Author.Tests.{ltb-true, ltb-false, leb-true, leb-false, eqb-true, eqb-false, lt-ltb, le-ltb, lt-leb}
+use Rattle.std.specs.declared.result.Result.TheVariants.{Ok, Err}
 use Rattle.rules.proofs.At.{le_or_lt}
 use Rattle.rules.specs.Piece.{Within, AllWellFormed}
 use Rattle.rules.specs.Lists.{range, ranges, cut, total}
-use Rattle.rules.specs.Answer.{refuse, or_else, overlaps, judge_range, judge_list, judge_lists}
+use Rattle.rules.specs.Answer.{Judgement, Answer, refuse, or_else, overlaps, judge_range, judge_list, judge_lists}
 use Rattle.rules.specs.Refusals.{follows}
-use Rattle.rules.specs.declared.Answer.{Answer}
-use Rattle.rules.specs.declared.Answer.TheVariants.{Backward, Overlap}
-use Rattle.rules.specs.declared.Judgement.{Judgement}
-use Rattle.rules.specs.declared.Judgement.TheVariants.{Sound, Refused}
+use Rattle.rules.specs.declared.Refusal.{Refusal}
+use Rattle.rules.specs.declared.Refusal.TheVariants.{Backward, Overlap}
 
 -- the test t tells whether X holds
 pub record Tells (t : Bool) (X : Type 0) : Type 0 where
@@ -58,8 +58,8 @@ tells_not_holds {t = false} h n = refl
 
 -- a names what is wrong at a place: it is backward, or, if not, it overlaps
 pub data Names (B O : ℕ → Type 0) : Answer → ℕ → Type 0 where
-  backward : {i : ℕ} → B i → Names B O (Backward i) i
-  overlap : {i : ℕ} → (B i → ⊥) → O i → Names B O (Overlap i) i
+  backward : {i : ℕ} → B i → Names B O (Err (Backward i)) i
+  overlap : {i : ℕ} → (B i → ⊥) → O i → Names B O (Err (Overlap i)) i
 
 -- no place from lo up to but not hi has a fault
 abbrev pub Clean : (B O : ℕ → Type 0) → ℕ → ℕ → Type 0
@@ -75,8 +75,8 @@ pub record Fault (B O : ℕ → Type 0) (lo hi : ℕ) (a : Answer) : Type 0 wher
 
 -- what a judgement of the places from lo up to but not hi finds: no fault, or the first
 pub data Finds (B O : ℕ → Type 0) (lo hi : ℕ) : Judgement → Type 0 where
-  sound : Clean B O lo hi → Finds B O lo hi Sound
-  refused : {a : Answer} → Fault B O lo hi a → Finds B O lo hi (Refused a)
+  sound : Clean B O lo hi → Finds B O lo hi (Ok tt)
+  refused : {r : Refusal} → Fault B O lo hi (Err r) → Finds B O lo hi (Err r)
 
 module _ {B O : ℕ → Type 0} where
   pub names_fault : {a : Answer} {i : ℕ} → Names B O a i → B i ⊎ O i
@@ -105,13 +105,13 @@ module _ {B O : ℕ → Type 0} where
   finds_or p q (sound c) (refused g) = refused (record { place = g.place; from = omega arith; below = g.below; clean = clean_more c g.clean; names = g.names })
   finds_or p q (refused f) g = refused (record { place = f.place; from = f.from; below = omega arith; clean = f.clean; names = f.names })
 
-  finds_none : (lo hi : ℕ) → hi ≤ lo → Finds B O lo hi Sound
+  finds_none : (lo hi : ℕ) → hi ≤ lo → Finds B O lo hi (Ok tt)
   finds_none lo hi h = sound (λ j l m x. omega arith)
 
-  finds_here : {a : Answer} (i : ℕ) → Names B O a i → Finds B O i (suc i) (Refused a)
+  finds_here : {r : Refusal} (i : ℕ) → Names B O (Err r) i → Finds B O i (suc i) (Err r)
   finds_here i n = refused (record { place = i; from = omega arith; below = omega arith; clean = λ j l m x. omega arith; names = n })
 
-  finds_one : {t u : Bool} (i : ℕ) → Tells t (B i) → Tells u (O i) → Finds B O i (suc i) (refuse t (Backward i) (refuse u (Overlap i) Sound))
+  finds_one : {t u : Bool} (i : ℕ) → Tells t (B i) → Tells u (O i) → Finds B O i (suc i) (refuse t (Backward i) (refuse u (Overlap i) (Ok tt)))
   finds_one {t = true} i h k = finds_here i (backward (h.yes refl))
   finds_one {t = false} {u = true} i h k = finds_here i (overlap (h.no refl) (k.yes refl))
   finds_one {t = false} {u = false} i h k = sound (λ j l m x. let q : j ≡ i = omega arith in ⊎_elim (h.no refl) (k.no refl) (rw q at x))
@@ -132,55 +132,55 @@ module _ (s e : ℕ → ℕ) (O : ℕ → Type 0) where
   finds_list o i (suc n) hi q h r =
       let z : suc i - 1 ≡ i = omega arith in
       finds_or (omega arith) (omega arith) (finds_one i (tells_lt (e i) (s i)) (h (omega arith)))
-      (finds_list (some (e i)) (suc i) n hi (omega arith) (λ l. rw z at (r (suc i) (omega arith) l)) (λ j l m. r j (omega arith) m))
+      (finds_list (Some (e i)) (suc i) n hi (omega arith) (λ l. rw z at (r (suc i) (omega arith) l)) (λ j l m. r j (omega arith) m))
 
   -- over lists that lie end to end, the first faulty range by its flat index
   pub finds_lists : (i : ℕ) (ns : List ℕ) (hi : ℕ) → i + total ns ≡ hi → ((j : ℕ) → i ≤ j → j < hi → Tells (follows ns (j - i) && leb (s j) (e (j - 1))) (O j)) → Finds Back O i hi (judge_lists (cut s e (λ i. i) i ns))
   finds_lists i [] hi q h = finds_none i hi (omega arith)
   finds_lists i (n ∷ ns) hi q h =
       finds_or (omega arith) (omega arith)
-      (finds_list none i n (i + n) refl
+      (finds_list None i n (i + n) refl
       (λ l. rw (follows_in n ns (i - i) (omega arith), le-ltb 0 (i - i) (omega arith)) at (h i (omega arith) (omega arith)))
       (λ j l m. rw (follows_in n ns (j - i) (omega arith), lt-ltb 0 (j - i) (omega arith)) at (h j (omega arith) (omega arith))))
       (finds_lists (i + n) ns hi (omega arith) (λ j l m. let z : (j - i) - n ≡ j - (i + n) = omega arith in rw (follows_later n ns (j - i) (omega arith), z) at (h j (omega arith) m)))
 
 -- what is sound was refused nowhere on the way
-past_refuse : (t : Bool) (a : Answer) (next : Judgement) → refuse t a next ≡ Sound → (t ≡ false) × (next ≡ Sound)
+past_refuse : (t : Bool) (r : Refusal) (next : Judgement) → refuse t r next ≡ Ok tt → (t ≡ false) × (next ≡ Ok tt)
 past_refuse true a next h = let z : ◌≡◌ {A = ℕ} 0 1 = cc in absurd (omega arith)
 past_refuse false a next h = (refl, h)
 
-past_or : (j k : Judgement) → or_else j k ≡ Sound → (j ≡ Sound) × (k ≡ Sound)
-past_or Sound k h = (refl, h)
-past_or (Refused a) k h = let z : ◌≡◌ {A = ℕ} 0 1 = cc in absurd (omega arith)
+past_or : (j k : Judgement) → or_else j k ≡ Ok tt → (j ≡ Ok tt) × (k ≡ Ok tt)
+past_or (Ok u) k h = (refl, h)
+past_or (Err r) k h = let z : ◌≡◌ {A = ℕ} 0 1 = cc in absurd (omega arith)
 
 -- the least point that may come after an end
 abbrev after : Option ℕ → ℕ
-after none = 0
-after (some p) = p + 1
+after None = 0
+after (Some p) = p + 1
 
 beyond : (o : Option ℕ) (p : ℕ) → overlaps o p ≡ false → after o ≤ p
-beyond none p h = omega arith
-beyond (some q) p h = omega (arith, leb-false p q h)
+beyond None p h = omega arith
+beyond (Some q) p h = omega (arith, leb-false p q h)
 
 not_over : (o : Option ℕ) (p : ℕ) → after o ≤ p → overlaps o p ≡ false
-not_over none p h = refl
-not_over (some q) p h = lt-leb p q (omega arith)
+not_over None p h = refl
+not_over (Some q) p h = lt-leb p q (omega arith)
 
 -- and what is refused nowhere is sound
-pub not_refused : {t : Bool} (a : Answer) {next : Judgement} → t ≡ false → next ≡ Sound → refuse t a next ≡ Sound
+pub not_refused : {t : Bool} (r : Refusal) {next : Judgement} → t ≡ false → next ≡ Ok tt → refuse t r next ≡ Ok tt
 not_refused a p q = rw (p, q)
 
 -- well-formed lists have no fault
 module _ (s e : ℕ → ℕ) (points : ℕ) where
-  clear : (o : Option ℕ) (i m : ℕ) → Within (after o) points (ranges s e (λ i. i) i m) → judge_list o (ranges s e (λ i. i) i m) ≡ Sound
+  clear : (o : Option ℕ) (i m : ℕ) → Within (after o) points (ranges s e (λ i. i) i m) → judge_list o (ranges s e (λ i. i) i m) ≡ Ok tt
   clear o i zero w = refl
   clear o i (suc m) w =
-      let r : judge_range o (range s e (λ i. i) i) ≡ Sound = not_refused (Backward i) (le-ltb (e i) (s i) w.1) (not_refused (Overlap i) (not_over o (s i) w.0) refl) in
-      rw r (clear (some (e i)) (suc i) m w.2)
+      let r : judge_range o (range s e (λ i. i) i) ≡ Ok tt = not_refused (Backward i) (le-ltb (e i) (s i) w.1) (not_refused (Overlap i) (not_over o (s i) w.0) refl) in
+      rw r (clear (Some (e i)) (suc i) m w.2)
 
-  pub all_clear : (i : ℕ) (ns : List ℕ) → AllWellFormed points (cut s e (λ i. i) i ns) → judge_lists (cut s e (λ i. i) i ns) ≡ Sound
+  pub all_clear : (i : ℕ) (ns : List ℕ) → AllWellFormed points (cut s e (λ i. i) i ns) → judge_lists (cut s e (λ i. i) i ns) ≡ Ok tt
   all_clear i [] w = refl
-  all_clear i (m ∷ ns) w = rw (clear none i m w.0) (all_clear (i + m) ns w.1)
+  all_clear i (m ∷ ns) w = rw (clear None i m w.0) (all_clear (i + m) ns w.1)
 
 -- well-formed lists are so whatever their values are
 module _ {A B : Type 0} (s e : ℕ → ℕ) (v : ℕ → A) (u : ℕ → B) (points : ℕ) where
@@ -194,16 +194,16 @@ module _ {A B : Type 0} (s e : ℕ → ℕ) (v : ℕ → A) (u : ℕ → B) (poi
 
 -- lists with no fault, at places below n whose ends are among the points, are well formed whatever their values are
 module _ {A : Type 0} (s e : ℕ → ℕ) (v : ℕ → A) (points n : ℕ) (low : (i : ℕ) → i < n → e i < points) where
-  formed : (o : Option ℕ) (i m : ℕ) → i + m ≤ n → after o ≤ points → judge_list o (ranges s e (λ i. i) i m) ≡ Sound → Within (after o) points (ranges s e v i m)
+  formed : (o : Option ℕ) (i m : ℕ) → i + m ≤ n → after o ≤ points → judge_list o (ranges s e (λ i. i) i m) ≡ Ok tt → Within (after o) points (ranges s e v i m)
   formed o i zero b l h = l
   formed o i (suc m) b l h =
       let p = past_or (judge_range o (range s e (λ i. i) i)) _ h in
       let q = past_refuse _ _ _ p.0 in
       let r = past_refuse _ _ _ q.1 in
-      (beyond o (s i) r.0, ltb-false (e i) (s i) q.0, formed (some (e i)) (suc i) m (omega arith) (omega (arith, low i (omega arith))) p.1)
+      (beyond o (s i) r.0, ltb-false (e i) (s i) q.0, formed (Some (e i)) (suc i) m (omega arith) (omega (arith, low i (omega arith))) p.1)
 
-  pub all_formed : (i : ℕ) (ns : List ℕ) → i + total ns ≤ n → judge_lists (cut s e (λ i. i) i ns) ≡ Sound → AllWellFormed points (cut s e v i ns)
+  pub all_formed : (i : ℕ) (ns : List ℕ) → i + total ns ≤ n → judge_lists (cut s e (λ i. i) i ns) ≡ Ok tt → AllWellFormed points (cut s e v i ns)
   all_formed i [] b h = tt
   all_formed i (m ∷ ns) b h =
-      let p = past_or (judge_list none (ranges s e (λ i. i) i m)) _ h in
-      (formed none i m (omega arith) (omega arith) p.0, all_formed (i + m) ns (omega arith) p.1)
+      let p = past_or (judge_list None (ranges s e (λ i. i) i m)) _ h in
+      (formed None i m (omega arith) (omega arith) p.0, all_formed (i + m) ns (omega arith) p.1)

@@ -3,7 +3,8 @@ use Prim.Native.Nat.{ℕ, zero, suc, max, min, ◌+◌, ◌≤◌, ◌<◌}
 use mathlib.Core.Path.{◌≡◌, refl, sym, ◌∙◌, ap, ap₂}
 use mathlib.Core.Logic.{◌≢◌, ◌⊎◌, inl, inr}
 use mathlib.Core.Bool.{Bool, true, false, cond}
-use mathlib.Core.Option.{Option, none, some}
+use Rattle.std.specs.declared.option.Option.{Option}
+use Rattle.std.specs.declared.option.Option.TheVariants.{None, Some}
 use mathlib.Core.List.{List, [], ◌∷◌, ◌++◌}
 use native.Mathlib.Omega.{arith}
 use lib.Dec.{leb}
@@ -17,15 +18,15 @@ use Rattle.rules.proofs.TwoWay.{within_low, paired_only}
 
 -- the first of two that is there
 abbrev either : {A : Type 0} → Option A → Option A → Option A
-either none b = b
-either (some a) b = some a
+either None b = b
+either (Some a) b = Some a
 
 module _ {A : Type 0} where
   at_append : (xs ys : List (Piece A)) (p : ℕ) → at (xs ++ ys) p ≡ either (at xs p) (at ys p)
   at_append [] ys p = refl
   at_append (x ∷ xs) ys p = go (holds x p) (at_append xs ys p)
     where
-      go : (t : Bool) → at (xs ++ ys) p ≡ either (at xs p) (at ys p) → cond t (some x.value) (at (xs ++ ys) p) ≡ either (cond t (some x.value) (at xs p)) (at ys p)
+      go : (t : Bool) → at (xs ++ ys) p ≡ either (at xs p) (at ys p) → cond t (Some x.value) (at (xs ++ ys) p) ≡ either (cond t (Some x.value) (at xs p)) (at ys p)
       go true rest = refl
       go false rest = rest
 
@@ -68,23 +69,23 @@ module _ {A : Type 0} where
 abbrev both : Option ℕ → Option ℕ → Option Match
 both a b = pair_rule Inner (a ∷ b ∷ [])
 
-both_none : (a : Option ℕ) → both a none ≡ none
-both_none none = refl
-both_none (some i) = refl
+both_none : (a : Option ℕ) → both a None ≡ None
+both_none None = refl
+both_none (Some i) = refl
 
 both_right : (a b c : Option ℕ) → either (both a b) (both a c) ≡ both a (either b c)
-both_right none b c = refl
-both_right (some i) none c = refl
-both_right (some i) (some j) c = refl
+both_right None b c = refl
+both_right (Some i) None c = refl
+both_right (Some i) (Some j) c = refl
 
 both_left : (a b c : Option ℕ) → either (both a c) (both b c) ≡ both (either a b) c
-both_left none b c = refl
-both_left (some i) b (some k) = refl
-both_left (some i) b none = both_none b
+both_left None b c = refl
+both_left (Some i) b (Some k) = refl
+both_left (Some i) b None = both_none b
 
 -- the intersection of two ranges, and the two cases of `meet`
 abbrev crossing : Piece ℕ → Piece ℕ → Piece Match
-crossing x y = record { start = max x.start y.start; end = min x.end y.end; value = (some x.value, some y.value) }
+crossing x y = record { start = max x.start y.start; end = min x.end y.end; value = (Some x.value, Some y.value) }
 
 meet_cases : (x y : Piece ℕ) (P : List (Piece Match) → Type 0) → (max x.start y.start ≤ min x.end y.end → P (crossing x y ∷ [])) → P [] → P (meet x y)
 meet_cases x y P some-point no-point = go (leb (max x.start y.start) (min x.end y.end)) refl
@@ -98,8 +99,8 @@ module _ (p : ℕ) where
   meet_at : (x y : Piece ℕ) → at (meet x y) p ≡ both (at (x ∷ []) p) (at (y ∷ []) p)
   meet_at x y = go (le_or_lt x.start p) (le_or_lt p x.end) (le_or_lt y.start p) (le_or_lt p y.end)
     where
-      out : at (crossing x y ∷ []) p ≡ none → at (meet x y) p ≡ none
-      out h = meet_cases x y (λ zs. at zs p ≡ none) (λ m. h) refl
+      out : at (crossing x y ∷ []) p ≡ None → at (meet x y) p ≡ None
+      out h = meet_cases x y (λ zs. at zs p ≡ None) (λ m. h) refl
 
       go : (x.start ≤ p) ⊎ (p < x.start) → (p ≤ x.end) ⊎ (x.end < p) → (y.start ≤ p) ⊎ (p < y.start) → (p ≤ y.end) ⊎ (y.end < p) → at (meet x y) p ≡ both (at (x ∷ []) p) (at (y ∷ []) p)
       go (inl a) (inl b) (inl c) (inl d) = rw (at_in x [] p a b, at_in y [] p c d, le-leb (crossing x y).start (crossing x y).end (omega arith)) (at_in (crossing x y) [] p (omega arith) (omega arith))
@@ -137,11 +138,11 @@ meets_within b c n [] ys u w = u
 meets_within b c n (x ∷ xs) ys u w = within_append b (x.end + 1) n (meet_all x ys) (meets xs ys) (meet_all_within b c n x ys w (omega arith) (omega arith)) (meets_within (x.end + 1) c n xs ys u.2 w)
 
 module _ (P : Match → Type 0) where
-  each_meet_all : (x : Piece ℕ) (ys : List (Piece ℕ)) → Each (λ v. P (some x.value, some v)) ys → Each P (meet_all x ys)
+  each_meet_all : (x : Piece ℕ) (ys : List (Piece ℕ)) → Each (λ v. P (Some x.value, Some v)) ys → Each P (meet_all x ys)
   each_meet_all x [] e = tt
   each_meet_all x (y ∷ ys) e = let rest = each_meet_all x ys e.1 in meet_cases x y (λ zs. Each P (zs ++ meet_all x ys)) (λ m. (e.0, rest)) rest
 
-  each_meets : (xs ys : List (Piece ℕ)) → Each (λ u. Each (λ v. P (some u, some v)) ys) xs → Each P (meets xs ys)
+  each_meets : (xs ys : List (Piece ℕ)) → Each (λ u. Each (λ v. P (Some u, Some v)) ys) xs → Each P (meets xs ys)
   each_meets [] ys e = tt
   each_meets (x ∷ xs) ys e = each_append P (meet_all x ys) (meets xs ys) (each_meet_all x ys e.0) (each_meets xs ys e.1)
 
@@ -149,15 +150,15 @@ distinct_meet_all : (x : Piece ℕ) (ys : List (Piece ℕ)) → Distinct ys → 
 distinct_meet_all x [] d = tt
 distinct_meet_all x (y ∷ ys) d =
     let rest = distinct_meet_all x ys d.1 in
-    let apart = each_meet_all (λ m. (crossing x y).value ≢ m) x ys (each_map (λ v g q. g (let r : some y.value ≡ some v = λ i. (q i).1 in cc)) ys d.0) in
+    let apart = each_meet_all (λ m. (crossing x y).value ≢ m) x ys (each_map (λ v g q. g (let r : Some y.value ≡ Some v = λ i. (q i).1 in cc)) ys d.0) in
     meet_cases x y (λ zs. Distinct (zs ++ meet_all x ys)) (λ m. (apart, rest)) rest
 
 distinct_meets : (xs ys : List (Piece ℕ)) → Distinct xs → Distinct ys → Distinct (meets xs ys)
 distinct_meets [] ys d f = tt
 distinct_meets (x ∷ xs) ys d f = distinct_append (meet_all x ys) (meets xs ys) (distinct_meet_all x ys f) (distinct_meets xs ys d.1 f) (each_meet_all (λ m. Each (λ o. m ≢ o) (meets xs ys)) x ys (each_any other ys))
   where
-    other : (v : ℕ) → Each (λ o. (some x.value, some v) ≢ o) (meets xs ys)
-    other v = each_meets (λ o. (some x.value, some v) ≢ o) xs ys (each_map (λ u g. each_any (λ t q. g (let r : some x.value ≡ some u = λ i. (q i).0 in cc)) ys) xs d.0)
+    other : (v : ℕ) → Each (λ o. (Some x.value, Some v) ≢ o) (meets xs ys)
+    other v = each_meets (λ o. (Some x.value, Some v) ≢ o) xs ys (each_map (λ u g. each_any (λ t q. g (let r : Some x.value ≡ Some u = λ i. (q i).0 in cc)) ys) xs d.0)
 
 -- one piece for every left range and right range that share a point
 pub paired_inner : (n : ℕ) (l r : List (Piece ℕ)) → WellFormed n l → WellFormed n r → Distinct l → Distinct r → paired Inner n (l ∷ r ∷ []) ≡ meets l r

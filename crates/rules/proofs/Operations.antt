@@ -2,14 +2,15 @@
 use Prim.Native.Nat.{ℕ, ◌+◌, ◌≤◌, ◌<◌}
 use mathlib.Core.Path.{◌≡◌, refl, sym, ap, ◌∙◌, subst}
 use mathlib.Core.Logic.{◌↔◌, ◌≢◌}
-use mathlib.Core.Option.{none, some}
+use Rattle.std.specs.declared.option.Option.TheVariants.{None, Some}
 use mathlib.Core.List.{List, [], ◌∷◌}
 use native.Mathlib.Omega.{arith}
 use lib.IntN.{ℤ, pos}
 use lib.ListN.{length, get_or}
+use Rattle.std.specs.declared.result.Result.TheVariants.{Ok, Err}
 use Rattle.rules.specs.Piece.{Piece, Range}
 use Rattle.rules.specs.Lists.{Width, Lent, lists, tracks}
-use Rattle.rules.specs.Answer.{code_of, judge, Outcome, settle, least, front}
+use Rattle.rules.specs.Answer.{Answer, code_of, judge, Outcome, settle, least, front}
 use Rattle.rules.specs.Sweep.{Event, starts, ends, point, kind, list, events}
 use Rattle.rules.specs.TwoWay.{Match, paired, side_value, presence}
 use Rattle.rules.specs.Merged.{Merged}
@@ -20,8 +21,7 @@ use Rattle.rules.specs.Paired as paired_columns
 use Rattle.rules.specs.Listed as listed_columns
 use Rattle.rules.specs.Outcomes.{pairing, listing}
 use Rattle.rules.specs.Refusals.{Given}
-use Rattle.rules.specs.declared.Answer.{Answer}
-use Rattle.rules.specs.declared.Answer.TheVariants.{Done, NoRoom}
+use Rattle.rules.specs.declared.Refusal.TheVariants.{NoRoom}
 use Rattle.rules.specs.declared.Kind.{Kind}
 use Rattle.rules.specs.declared.Kind.TheVariants.{Listing, TwoWay}
 use Rattle.rules.specs.declared.Pairing.{Pairing}
@@ -44,17 +44,17 @@ pub record Unchanged {A : Type 0} (n : ℕ) (old new : List A) : Type 0 where
 pub record Settled {P C R : Type 0} (w : Width P) (k : Kind) (l : Lent P) (rs : List R) (lengths : List ℕ) (Row : C → ℕ → R → Type 0) (Later : ℕ → C → C → Type 0) (c : C) (out : Outcome C) : Type 0 where
   pub answer : (room : ℕ) → Shortest lengths room → (a : Answer) → (out.answer ≡ a) ↔ Given w k l (length rs) room a
   pub refused : code_of out.answer ≢ 0 → out.columns ≡ c
-  pub written : (n : ℕ) → out.answer ≡ Done n → (i : ℕ) (r : R) → i < length rs → Row out.columns i (get_or rs i r)
-  pub later : (n : ℕ) → out.answer ≡ Done n → Later (length rs) c out.columns
+  pub written : (n : ℕ) → out.answer ≡ Ok n → (i : ℕ) (r : R) → i < length rs → Row out.columns i (get_or rs i r)
+  pub later : (n : ℕ) → out.answer ≡ Ok n → Later (length rs) c out.columns
 
 module _ {P C R : Type 0} (w : Width P) (k : Kind) (l : Lent P) (rs : List R) (n : ℕ) (ns : List ℕ) (Row : C → ℕ → R → Type 0) (Later : ℕ → C → C → Type 0) (c after : C) where
   abbrev out : Outcome C
   out = settle (judge w k l) (length rs) (least (n ∷ ns)) c after
 
-  all_fit : (m : ℕ) → out.answer ≡ Done m → length rs ≤ least (n ∷ ns)
+  all_fit : (m : ℕ) → out.answer ≡ Ok m → length rs ≤ least (n ∷ ns)
   all_fit m q =
-      let g = (given w k l (length rs) (least (n ∷ ns)) c after (Done m)).0 q in
-      let h : least (n ∷ ns) < length rs → ⊥ = λ h. g.1 (NoRoom (length rs)) (omega arith) (h, refl) in
+      let g = (given w k l (length rs) (least (n ∷ ns)) c after (Ok m)).0 q in
+      let h : least (n ∷ ns) < length rs → ⊥ = λ h. g.1 (Err (NoRoom (length rs))) (omega arith) (h, refl) in
       omega arith
 
   -- where the columns after the call hold the pieces if all of them fit
@@ -86,10 +86,10 @@ MergedLater n c d = Unchanged n c.start d.start × Unchanged n c.end d.end × Un
 
 -- the rows of a two-way operation, whose values are v by their places; a missing side is written as value 0 with its presence bit clear: bit 0 left, bit 1 right
 abbrev pub Sides : {P : Type 0} → (ℕ → ℤ) → Paired P → ℕ → Match → Type 0
-Sides v c i (none, none) = Has c.left i (pos 0) × Has c.right i (pos 0) × Has c.presence i 0
-Sides v c i (some j, none) = Has c.left i (v j) × Has c.right i (pos 0) × Has c.presence i 1
-Sides v c i (none, some k) = Has c.left i (pos 0) × Has c.right i (v k) × Has c.presence i 2
-Sides v c i (some j, some k) = Has c.left i (v j) × Has c.right i (v k) × Has c.presence i 3
+Sides v c i (None, None) = Has c.left i (pos 0) × Has c.right i (pos 0) × Has c.presence i 0
+Sides v c i (Some j, None) = Has c.left i (v j) × Has c.right i (pos 0) × Has c.presence i 1
+Sides v c i (None, Some k) = Has c.left i (pos 0) × Has c.right i (v k) × Has c.presence i 2
+Sides v c i (Some j, Some k) = Has c.left i (v j) × Has c.right i (v k) × Has c.presence i 3
 
 abbrev pub PairRow : {P : Type 0} → Width P → (ℕ → ℤ) → Paired P → ℕ → Piece Match → Type 0
 PairRow w v c i x = Has c.start i (w.point x.start) × Has c.end i (w.point x.end) × Sides v c i x.value
@@ -107,10 +107,10 @@ EventsLater n c d = Unchanged n c.kind d.kind × Unchanged n c.point d.point × 
 
 module _ {P : Type 0} (v : ℕ → ℤ) (c : Paired P) (i : ℕ) where
   sides : (m : Match) → Has c.left i (side_value v m.0) → Has c.right i (side_value v m.1) → Has c.presence i (presence m) → Sides v c i m
-  sides (none, none) a b p = (a, b, p)
-  sides (some j, none) a b p = (a, b, p)
-  sides (none, some k) a b p = (a, b, p)
-  sides (some j, some k) a b p = (a, b, p)
+  sides (None, None) a b p = (a, b, p)
+  sides (Some j, None) a b p = (a, b, p)
+  sides (None, Some k) a b p = (a, b, p)
+  sides (Some j, Some k) a b p = (a, b, p)
 
 module _ {P : Type 0} (w : Width P) (c : Listed P) (i : ℕ) where
   event_row : (e : Event ℤ) → Has c.kind i (kind e) → Has c.point i (w.point (point e)) → Has c.list i (list e) → Has c.value i (event_value e) → EventRow w c i e

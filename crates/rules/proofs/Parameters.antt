@@ -2,7 +2,8 @@
 use Prim.Native.Nat.{ℕ}
 use mathlib.Core.Path.{◌≡◌, refl}
 use lib.IntN.{ℤ}
-use Rattle.rules.specs.Lists.{Columns, MutColumns, given}
+use Rattle.rules.specs.Lists.{Columns, MutColumns, given, held}
+use Rattle.rules.specs.declared.Lists.{Lists}
 use Rattle.rules.specs.Merged as merged_columns
 use Rattle.rules.specs.Paired as paired_columns
 use Rattle.rules.specs.Listed as listed_columns
@@ -10,6 +11,9 @@ use Rattle.rules.specs.Listed as listed_columns
 module _ {P : Type 0} where
   pub given_reads : (starts ends : Columns P) (values : Columns ℤ) (counts : Columns ℕ) → given starts ends values counts ≡ record { starts = starts.entry.now; ends = ends.entry.now; values = values.entry.now; counts = counts.entry.now }
   given_reads starts ends values counts = refl
+
+  pub held_reads : (l : Lists P) → held l ≡ record { starts = l.starts.now; ends = l.ends.now; values = l.values.now; counts = l.counts.now }
+  held_reads l = refl
 
   module _ (start end : MutColumns P) (value : MutColumns ℤ) where
     pub merged_before_reads : merged_columns.before start end value ≡ record { start = start.entry.now; end = end.entry.now; value = value.entry.now }

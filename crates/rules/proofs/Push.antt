@@ -3,7 +3,8 @@ use Prim.Native.Nat.{ℕ, pred, ◌+◌, ◌≤◌, ◌<◌}
 use mathlib.Core.Path.{◌≡◌, refl, sym, ◌∙◌, ap}
 use mathlib.Core.Logic.{◌≢◌, ◌⊎◌, inl, inr}
 use mathlib.Core.Bool.{Bool, true, false, ◌&&◌, false≢true}
-use mathlib.Core.Option.{Option, none, some}
+use Rattle.std.specs.declared.option.Option.{Option}
+use Rattle.std.specs.declared.option.Option.TheVariants.{None, Some}
 use mathlib.Core.List.{List, [], ◌∷◌}
 use native.Mathlib.Omega.{arith}
 use lib.Dec.{eqb}
@@ -69,16 +70,16 @@ module _ {B : Type 0} (same : B → B → Bool) (law : Decides same) where
   push_before b c (x ∷ z ∷ zs) y w h l p k = at_tail x (push same (z ∷ zs) y) (z ∷ zs) p (push_before (x.end + 1) c (z ∷ zs) y w.2 h l p k)
 
   -- inside it its value stands
-  push_in : (b c : ℕ) (xs : List (Piece B)) (y : Piece B) → Within b c xs → c ≤ y.start → (p : ℕ) → y.start ≤ p → p ≤ y.end → at (push same xs y) p ≡ some y.value
+  push_in : (b c : ℕ) (xs : List (Piece B)) (y : Piece B) → Within b c xs → c ≤ y.start → (p : ℕ) → y.start ≤ p → p ≤ y.end → at (push same xs y) p ≡ Some y.value
   push_in b c [] y w h p k l = at_in y [] p k l
   push_in b c (x ∷ []) y w h p k l = go (touch same x y) refl
     where
-      go : (t : Bool) → touch same x y ≡ t → at (attach same t x y) p ≡ some y.value
-      go true e = at_in _ [] p (omega arith) l ∙ ap {B = Option B} some (touch_true x y e).1
+      go : (t : Bool) → touch same x y ≡ t → at (attach same t x y) p ≡ Some y.value
+      go true e = at_in _ [] p (omega arith) l ∙ ap {B = Option B} Some (touch_true x y e).1
       go false e = at_after x (y ∷ []) p (omega arith) ∙ at_in y [] p k l
   push_in b c (x ∷ z ∷ zs) y w h p k l = at_after x (push same (z ∷ zs) y) p (omega (arith, within_le (x.end + 1) c (z ∷ zs) w.2)) ∙ push_in (x.end + 1) c (z ∷ zs) y w.2 h p k l
 
-  pub push_below : (c d : ℕ) (v : B) (xs : List (Piece B)) (f : ℕ → Option B) → Below c xs f → c < d → ((p : ℕ) → c ≤ p → p < d → f p ≡ some v) → Below d (push same xs (record { start = c; end = pred d; value = v })) f
+  pub push_below : (c d : ℕ) (v : B) (xs : List (Piece B)) (f : ℕ → Option B) → Below c xs f → c < d → ((p : ℕ) → c ≤ p → p < d → f p ≡ Some v) → Below d (push same xs (record { start = c; end = pred d; value = v })) f
   push_below c d v xs f b h k =
       record {
         canonical = (push_within 0 c d xs _ b.canonical.0 (omega arith) (omega arith) (omega arith), push_differ xs _ b.canonical.1);
@@ -90,7 +91,7 @@ module _ {B : Type 0} (same : B → B → Bool) (law : Decides same) where
       go p l (inr m) = push_before 0 c xs _ b.canonical.0 (omega arith) (omega arith) p m ∙ b.agrees p m
 
 module _ {B : Type 0} where
-  pub skip_below : (c d : ℕ) (xs : List (Piece B)) (f : ℕ → Option B) → Below c xs f → c ≤ d → ((p : ℕ) → c ≤ p → p < d → f p ≡ none) → Below d xs f
+  pub skip_below : (c d : ℕ) (xs : List (Piece B)) (f : ℕ → Option B) → Below c xs f → c ≤ d → ((p : ℕ) → c ≤ p → p < d → f p ≡ None) → Below d xs f
   skip_below c d xs f b h k = record { canonical = (within_mono 0 c d xs b.canonical.0 h, b.canonical.1); agrees = λ p l. go p l (le_or_lt c p) }
     where
       go : (p : ℕ) → p < d → (c ≤ p) ⊎ (p < c) → at xs p ≡ f p
@@ -107,5 +108,5 @@ module _ {B : Type 0} where
 
 module _ {B : Type 0} (same : B → B → Bool) (law : Decides same) where
   -- a gap, and a piece after it
-  pub push_past : (c s d : ℕ) (v : B) (xs : List (Piece B)) (f : ℕ → Option B) → Below c xs f → c ≤ s → s < d → ((p : ℕ) → c ≤ p → p < s → f p ≡ none) → ((p : ℕ) → s ≤ p → p < d → f p ≡ some v) → Below d (push same xs (record { start = s; end = pred d; value = v })) f
+  pub push_past : (c s d : ℕ) (v : B) (xs : List (Piece B)) (f : ℕ → Option B) → Below c xs f → c ≤ s → s < d → ((p : ℕ) → c ≤ p → p < s → f p ≡ None) → ((p : ℕ) → s ≤ p → p < d → f p ≡ Some v) → Below d (push same xs (record { start = s; end = pred d; value = v })) f
   push_past c s d v xs f b h k gap on = push_below same law s d v xs f (skip_below c s xs f b h gap) k on

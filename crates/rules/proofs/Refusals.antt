@@ -9,33 +9,32 @@ use native.Mathlib.Nat.{sub-zero, eq-or-lt_of_le, le_of_suc-le-suc}
 use lib.IntN.{pos}
 use lib.ListN.{length, get_or}
 use borrow.Author.Tests.{le-ltb, le-leb, lt-leb}
+use Rattle.std.specs.declared.result.Result.TheVariants.{Ok, Err}
 use Rattle.rules.proofs.At.{le_or_lt}
 use Rattle.rules.specs.Piece.{AllWellFormed}
 use Rattle.rules.specs.Lists.{Width, Lent, keys, lists, tracks}
-use Rattle.rules.specs.Answer.{code_of, refuse, judge_lists, two_way, unknown_combiner, agree, judge, Outcome, leaves, settle}
+use Rattle.rules.specs.Answer.{Judgement, Answer, code_of, refuse, judge_lists, two_way, unknown_combiner, agree, judge, Outcome, leaves, settle}
 use Rattle.rules.specs.Refusals.{turn, Agree, Formed, IsBackward, IsOverlap, FirstFault, Due, Given}
-use Rattle.rules.specs.declared.Answer.{Answer}
-use Rattle.rules.specs.declared.Answer.TheVariants.{Done, TooManyLists, NotTwoLists, TooManyRanges, ColumnsDiffer, Backward, Overlap, UnknownCombiner, NoRoom}
-use Rattle.rules.specs.declared.Judgement.{Judgement}
-use Rattle.rules.specs.declared.Judgement.TheVariants.{Sound, Refused}
+use Rattle.rules.specs.declared.Refusal.{Refusal}
+use Rattle.rules.specs.declared.Refusal.TheVariants.{TooManyLists, NotTwoLists, TooManyRanges, ColumnsDiffer, Backward, Overlap, UnknownCombiner, NoRoom}
 use Rattle.rules.specs.declared.Kind.{Kind}
 use Rattle.rules.specs.declared.Kind.TheVariants.{Listing, TwoWay, Combining, Selection}
 use Rattle.rules.proofs.Faults.{Tells, tells_true, tells_lt, tells_le, tells_eq, tells_not, tells_both, tells_as, tells_holds, tells_not_holds, Names, backward, overlap, names_fault, Fault, Finds, sound, refused, fault_only, finds_lists, not_refused, all_clear, formed_values, all_formed}
 
 module _ {C : Type 0} (needed room : ℕ) (before after : C) where
   abbrev choice : Bool → Outcome C
-  choice t = cond t (leaves (Done needed) after) (leaves (NoRoom needed) before)
+  choice t = cond t (leaves (Ok needed) after) (leaves (Err (NoRoom needed)) before)
 
-  pub lacks : room < needed → settle Sound needed room before after ≡ leaves (NoRoom needed) before
+  pub lacks : room < needed → settle (Ok tt) needed room before after ≡ leaves (Err (NoRoom needed)) before
   lacks h = ap choice (lt-leb needed room h)
 
-  pub fits : needed ≤ room → settle Sound needed room before after ≡ leaves (Done needed) after
+  pub fits : needed ≤ room → settle (Ok tt) needed room before after ≡ leaves (Ok needed) after
   fits h = ap choice (le-leb needed room h)
 
   -- every refusal leaves the columns untouched
   pub refused_keeps : (j : Judgement) → code_of (settle j needed room before after).answer ≢ 0 → (settle j needed room before after).columns ≡ before
-  refused_keeps (Refused a) n = refl
-  refused_keeps Sound n =
+  refused_keeps (Err r) n = refl
+  refused_keeps (Ok u) n =
       ⊎_elim (λ h. absurd (n (ap (λ (o : Outcome C). code_of o.answer) (fits h)))) (λ h. ap (λ (o : Outcome C). o.columns) (lacks h)) (le_or_lt needed room)
 
 agree_tells : {P : Type 0} (l : Lent P) → Tells (agree l) (Agree l)
@@ -60,18 +59,18 @@ module _ {P : Type 0} (w : Width P) (k : Kind) (l : Lent P) (needed room : ℕ) 
 
   -- what an answer that is due is, by its turn
   abbrev Row : ℕ → Answer → Type 0
-  Row t a = get_or ((a ≡ TooManyLists) ∷ (a ≡ NotTwoLists) ∷ (a ≡ ColumnsDiffer) ∷ (a ≡ TooManyRanges) ∷ (a ≡ UnknownCombiner) ∷ FirstIs w l a ∷ (a ≡ NoRoom needed) ∷ []) t (a ≡ Done needed)
+  Row t a = get_or ((a ≡ Err TooManyLists) ∷ (a ≡ Err NotTwoLists) ∷ (a ≡ Err ColumnsDiffer) ∷ (a ≡ Err TooManyRanges) ∷ (a ≡ Err UnknownCombiner) ∷ FirstIs w l a ∷ (a ≡ Err (NoRoom needed)) ∷ []) t (a ≡ Ok needed)
 
   row : (a : Answer) → IsDue a → Row (turn a) a
-  row TooManyLists d = refl
-  row NotTwoLists d = refl
-  row ColumnsDiffer d = refl
-  row TooManyRanges d = refl
-  row UnknownCombiner d = refl
-  row (Backward i) d = first_is w l i d.0 (backward d.1)
-  row (Overlap i) d = first_is w l i d.0 (overlap d.1 d.2)
-  row (NoRoom n) d = ap NoRoom d.1
-  row (Done n) d = ap Done d
+  row (Err TooManyLists) d = refl
+  row (Err NotTwoLists) d = refl
+  row (Err ColumnsDiffer) d = refl
+  row (Err TooManyRanges) d = refl
+  row (Err UnknownCombiner) d = refl
+  row (Err (Backward i)) d = first_is w l i d.0 (backward d.1)
+  row (Err (Overlap i)) d = first_is w l i d.0 (overlap d.1 d.2)
+  row (Err (NoRoom n)) d = ap (λ n. Err (NoRoom n)) d.1
+  row (Ok n) d = ap Ok d
 
   -- no answer of a turn before m is due
   abbrev Clear : ℕ → Type 0
@@ -82,10 +81,10 @@ module _ {P : Type 0} (w : Width P) (k : Kind) (l : Lent P) (needed room : ℕ) 
   Only a = (b : Answer) → Row (turn a) b → b ≡ a
 
   clear_more : (m : ℕ) → ((b : Answer) → Row m b → IsDue b → ⊥) → Clear m → Clear (suc m)
-  clear_more m none clear b h d = ⊎_elim (λ q. none b (subst (λ t. Row t b) q (row b d)) d) (λ q. clear b q d) (eq-or-lt_of_le (le_of_suc-le-suc h))
+  clear_more m None clear b h d = ⊎_elim (λ q. None b (subst (λ t. Row t b) q (row b d)) d) (λ q. clear b q d) (eq-or-lt_of_le (le_of_suc-le-suc h))
 
   clear_past : (a : Answer) → Only a → (IsDue a → ⊥) → Clear (turn a) → Clear (suc (turn a))
-  clear_past a only none clear = clear_more (turn a) (λ b r d. none (subst IsDue (only b r) d)) clear
+  clear_past a only None clear = clear_more (turn a) (λ b r d. None (subst IsDue (only b r) d)) clear
 
   -- a is given, and no other
   record Sole (a : Answer) : Type 0 where
@@ -95,13 +94,13 @@ module _ {P : Type 0} (w : Width P) (k : Kind) (l : Lent P) (needed room : ℕ) 
 
   -- what a judgement tells
   data Told : Judgement → Type 0 where
-    none_due : Clear 6 → judge_lists (tracks w l) ≡ Sound → Told Sound
-    one_due : {a : Answer} → turn a < 6 → Sole a → Told (Refused a)
+    none_due : Clear 6 → judge_lists (tracks w l) ≡ Ok tt → Told (Ok tt)
+    one_due : {r : Refusal} → turn (Err r) < 6 → Sole (Err r) → Told (Err r)
 
   -- one refusal of the ladder, whose test tells whether it is due
-  rung : {t : Bool} (a : Answer) {next : Judgement} → turn a < 6 → Only a → Tells t (IsDue a) → Clear (turn a) → (Clear (suc (turn a)) → Told next) → Told (refuse t a next)
-  rung {t = true} a low only tells clear rest = one_due low (record { due = tells.yes refl; clear = clear; only = only })
-  rung {t = false} a low only tells clear rest = rest (clear_past a only (tells.no refl) clear)
+  rung : {t : Bool} (r : Refusal) {next : Judgement} → turn (Err r) < 6 → Only (Err r) → Tells t (IsDue (Err r)) → Clear (turn (Err r)) → (Clear (suc (turn (Err r))) → Told next) → Told (refuse t r next)
+  rung {t = true} r low only tells clear rest = one_due low (record { due = tells.yes refl; clear = clear; only = only })
+  rung {t = false} r low only tells clear rest = rest (clear_past (Err r) only (tells.no refl) clear)
 
   first_due : {a : Answer} {i : ℕ} → FirstFault w l i → NamesAt w l a i → (turn a ≡ 5) × IsDue a
   first_due f (backward b) = (refl, (f, b))
@@ -109,14 +108,14 @@ module _ {P : Type 0} (w : Width P) (k : Kind) (l : Lent P) (needed room : ℕ) 
 
   found : {j : Judgement} → Clear 5 → Finds (IsBackward w l) (IsOverlap w l) 0 (length l.starts) j → judge_lists (tracks w l) ≡ j → Told j
   found clear (sound c) q = none_due (clear_more 5 (λ b f d. c f.place f.from f.below (names_fault f.names)) clear) q
-  found clear (refused {a} f) e =
+  found clear (refused {r} f) e =
       let d = first_due (f.below, λ j. f.clean j (omega arith)) f.names in
       let q = d.0 in
-      one_due {a = a} (omega arith) (record { due = d.1; clear = rw q clear; only = λ b r. fault_only (rw q at r) f })
+      one_due {r = r} (omega arith) (record { due = d.1; clear = rw q clear; only = λ b r. fault_only (rw q at r) f })
 
   faults : Clear 5 → Told (judge_lists (tracks w l))
   faults clear =
-      let a = tells_holds (agree_tells l) (clear ColumnsDiffer (omega arith)) in
+      let a = tells_holds (agree_tells l) (clear (Err ColumnsDiffer) (omega arith)) in
       found clear
       (finds_lists (keys w l.starts) (keys w l.ends) (IsOverlap w l) 0 l.counts (length l.starts) (omega arith)
       (λ j h m. rw (sub-zero j) (tells_both (tells_true _) (tells_le _ _))))
@@ -146,10 +145,10 @@ module _ {P : Type 0} (w : Width P) (k : Kind) (l : Lent P) (needed room : ℕ) 
     settled (one_due low s) = s
     settled (none_due clear s) = go (le_or_lt needed room)
       where
-        go : (needed ≤ room) ⊎ (room < needed) → Sole (outcome Sound).answer
+        go : (needed ≤ room) ⊎ (room < needed) → Sole (outcome (Ok tt)).answer
         go (inl h) =
             subst (λ (o : Outcome C). Sole o.answer) (sym (fits needed room before after h))
-            (record { due = refl; clear = clear_past (NoRoom needed) (λ b r. r) (λ d. omega arith) clear; only = λ b r. r })
+            (record { due = refl; clear = clear_past (Err (NoRoom needed)) (λ b r. r) (λ d. omega arith) clear; only = λ b r. r })
         go (inr h) = subst (λ (o : Outcome C). Sole o.answer) (sym (lacks needed room before after h)) (record { due = (h, refl); clear = clear; only = λ b r. r })
 
     pub given_actual : Given w k l needed room (settle (judge w k l) needed room before after).answer
@@ -160,10 +159,10 @@ module _ {P : Type 0} (w : Width P) (k : Kind) (l : Lent P) (needed room : ℕ) 
     given a = (λ q. rw q at given_actual, λ g. sym (sole_is (settled told) a g))
 
     -- what is done is written
-    pub done_writes : (n : ℕ) → (settle (judge w k l) needed room before after).answer ≡ Done n → (settle (judge w k l) needed room before after).columns ≡ after
+    pub done_writes : (n : ℕ) → (settle (judge w k l) needed room before after).answer ≡ Ok n → (settle (judge w k l) needed room before after).columns ≡ after
     done_writes n = go told
       where
-        go : {j : Judgement} → Told j → (outcome j).answer ≡ Done n → (outcome j).columns ≡ after
+        go : {j : Judgement} → Told j → (outcome j).answer ≡ Ok n → (outcome j).columns ≡ after
         go (one_due low s) q = absurd (omega (arith, ap turn q))
         go (none_due clear s) q =
             ⊎_elim (λ h. ap (λ (o : Outcome C). o.columns) (fits needed room before after h))
@@ -173,39 +172,39 @@ module _ {P : Type 0} (w : Width P) (k : Kind) (l : Lent P) (needed room : ℕ) 
   given_only a b g h = sym ((given {C = Unit} tt tt a).1 g) ∙ (given {C = Unit} tt tt b).1 h
 
   -- what is refused before an operation runs is neither done nor short of room
-  pub refused_early : (a : Answer) → judge w k l ≡ Refused a → turn a < 6
-  refused_early a q = go (rw q at told)
+  pub refused_early : (r : Refusal) → judge w k l ≡ Err r → turn (Err r) < 6
+  refused_early r q = go (rw q at told)
     where
-      go : Told (Refused a) → turn a < 6
+      go : Told (Err r) → turn (Err r) < 6
       go (one_due low s) = low
 
 -- what holds where nothing is refused before an operation runs
 module _ {P : Type 0} (w : Width P) (k : Kind) (l : Lent P) where
-  passed : judge w k l ≡ Sound → Clear w k l 0 0 6 × (judge_lists (tracks w l) ≡ Sound)
+  passed : judge w k l ≡ Ok tt → Clear w k l 0 0 6 × (judge_lists (tracks w l) ≡ Ok tt)
   passed h = go (rw h at (told w k l 0 0))
     where
-      go : Told w k l 0 0 Sound → Clear w k l 0 0 6 × (judge_lists (tracks w l) ≡ Sound)
+      go : Told w k l 0 0 (Ok tt) → Clear w k l 0 0 6 × (judge_lists (tracks w l) ≡ Ok tt)
       go (none_due clear s) = (clear, s)
 
-  pub sound_agrees : judge w k l ≡ Sound → Agree l
-  sound_agrees h = let c : Clear w k l 0 0 6 = (passed h).0 in tells_holds (agree_tells l) (c ColumnsDiffer (omega arith))
+  pub sound_agrees : judge w k l ≡ Ok tt → Agree l
+  sound_agrees h = let c : Clear w k l 0 0 6 = (passed h).0 in tells_holds (agree_tells l) (c (Err ColumnsDiffer) (omega arith))
 
   -- each end is a point
-  pub sound_formed : ((i : ℕ) → i < length l.ends → keys w l.ends i < w.points) → judge w k l ≡ Sound → Formed w k l
+  pub sound_formed : ((i : ℕ) → i < length l.ends → keys w l.ends i < w.points) → judge w k l ≡ Ok tt → Formed w k l
   sound_formed low h =
       let c : Clear w k l 0 0 6 = (passed h).0 in
       let agree = sound_agrees h in
       record {
-        lists_few = omega (arith, c TooManyLists (omega arith));
-        two = λ z. tells_holds (tells_eq _ 2) (λ n. c NotTwoLists (omega arith) (z, n));
+        lists_few = omega (arith, c (Err TooManyLists) (omega arith));
+        two = λ z. tells_holds (tells_eq _ 2) (λ n. c (Err NotTwoLists) (omega arith) (z, n));
         agree = agree;
-        ranges_few = omega (arith, c TooManyRanges (omega arith));
-        known_combiner = not-eq-not.0 (c UnknownCombiner (omega arith));
+        ranges_few = omega (arith, c (Err TooManyRanges) (omega arith));
+        known_combiner = not-eq-not.0 (c (Err UnknownCombiner) (omega arith));
         formed = all_formed _ _ (λ i. i) _ _ low 0 l.counts (omega (arith, agree.ends_long, agree.adds_up)) (passed h).1;
       }
 
   -- well-formed lists within the limits are judged sound
-  pub formed_sound : Formed w k l → judge w k l ≡ Sound
+  pub formed_sound : Formed w k l → judge w k l ≡ Ok tt
   unfolding judge
   formed_sound f =
       not_refused TooManyLists (le-ltb 16 _ f.lists_few)
@@ -215,7 +214,7 @@ module _ {P : Type 0} (w : Width P) (k : Kind) (l : Lent P) where
       (not_refused UnknownCombiner f.known_combiner (all_clear _ _ w.points 0 l.counts f.formed)))))
 
   -- given that each end is a point
-  pub sound_exactly : ((i : ℕ) → i < length l.ends → keys w l.ends i < w.points) → (judge w k l ≡ Sound) ↔ Formed w k l
+  pub sound_exactly : ((i : ℕ) → i < length l.ends → keys w l.ends i < w.points) → (judge w k l ≡ Ok tt) ↔ Formed w k l
   sound_exactly low = (sound_formed low, formed_sound)
 
 -- a test of kinds that fails at k and passes at k'

@@ -2,7 +2,8 @@
 use Prim.Native.Nat.{ℕ, pred, ◌+◌, ◌*◌, ◌-◌, ◌≤◌}
 use mathlib.Core.Path.{◌≡◌, refl, ap}
 use mathlib.Core.Bool.{Bool, true, false, cond}
-use mathlib.Core.Option.{Option, none, some}
+use Rattle.std.specs.declared.option.Option.{Option}
+use Rattle.std.specs.declared.option.Option.TheVariants.{None, Some}
 use mathlib.Core.List.{List, [], ◌∷◌}
 use native.Mathlib.Omega.{arith}
 use lib.Dec.{ltb, eqb}
@@ -55,8 +56,8 @@ module _ {B : Type 0} (same : B → B → Bool) where
   push_count (x ∷ z ∷ zs) y = omega (arith, push_count (z ∷ zs) y)
 
   extend_count : (o : Option B) (c d : ℕ) (xs : List (Piece B)) → length (extend same o c d xs) ≤ length xs + 1
-  extend_count none c d xs = omega arith
-  extend_count (some v) c d xs = push_count xs _
+  extend_count None c d xs = omega arith
+  extend_count (Some v) c d xs = push_count xs _
 
   fill_count : (f : ℕ → Option B) (c : ℕ) (ds : List ℕ) (xs : List (Piece B)) → length (fill same f c ds xs) ≤ length xs + length ds
   fill_count f c [] xs = omega arith
@@ -74,14 +75,14 @@ module _ {B : Type 0} (same : B → B → Bool) where
     runs_count = omega (arith, pieces_count (says rule ls) (line n ls), line_count n ls)
 
     -- where it admits no point without a range
-    pub runs_room : Decides same → AllWellFormed n ls → rule (nones ls) ≡ none → length (runs same rule n ls) ≤ 2 * size ls - 1
+    pub runs_room : Decides same → AllWellFormed n ls → rule (nones ls) ≡ None → length (runs same rule n ls) ≤ 2 * size ls - 1
     runs_room law wf q = omega (arith, ap length (runs_cuts same law rule n ls wf q), pieces_count (says rule ls) (cuts ls), cuts_count ls)
 
 pub paired_room : (o : Pairing) (n : ℕ) (l r : List (Piece ℕ)) → AllWellFormed n (l ∷ r ∷ []) → length (paired o n (l ∷ r ∷ [])) ≤ 2 * size (l ∷ r ∷ []) - 1
 unfolding paired
 paired_room o n l r wf = runs_room same_match (pair_rule o) n (l ∷ r ∷ []) decides_match wf (go o)
   where
-    go : (o : Pairing) → pair_rule o (none ∷ none ∷ []) ≡ none
+    go : (o : Pairing) → pair_rule o (None ∷ None ∷ []) ≡ None
     go Inner = refl
     go Left = refl
     go Full = refl

@@ -3,7 +3,8 @@ use Prim.Native.Nat.{ℕ, ◌≤◌, ◌<◌}
 use mathlib.Core.Path.{◌≡◌, refl, sym, ◌∙◌, ap}
 use mathlib.Core.Logic.{◌⊎◌, inl, inr, ◌↔◌}
 use mathlib.Core.Bool.{Bool}
-use mathlib.Core.Option.{Option, none, some}
+use Rattle.std.specs.declared.option.Option.{Option}
+use Rattle.std.specs.declared.option.Option.TheVariants.{None, Some}
 use mathlib.Core.List.{List, [], ◌∷◌}
 use native.Mathlib.Omega.{arith}
 use Rattle.rules.specs.Piece.{Piece, at, AllWellFormed}
@@ -18,8 +19,8 @@ module _ {B : Type 0} (same : B → B → Bool) (law : Decides same) (f : ℕ �
   extend_below c d xs b h k = go (f c) refl
     where
       go : (o : Option B) → f c ≡ o → Below d (extend same o c d xs) f
-      go none e = skip_below c d xs f b (omega arith) (λ p m l. k p m l ∙ e)
-      go (some v) e = push_below same law c d v xs f b h (λ p m l. k p m l ∙ e)
+      go None e = skip_below c d xs f b (omega arith) (λ p m l. k p m l ∙ e)
+      go (Some v) e = push_below same law c d v xs f b h (λ p m l. k p m l ∙ e)
 
 pub nothing_below : {B : Type 0} (f : ℕ → Option B) → Below 0 [] f
 nothing_below f = record { canonical = (omega arith, tt); agrees = λ p h. absurd (omega arith) }
@@ -43,7 +44,7 @@ module _ {A B : Type 0} (same : B → B → Bool) (law : Decides same) (rule : L
       steady p h m = ap rule (column_steady c d p h m ls (map_all out ls e))
 
   -- cuts outside which the rule admits nothing
-  pieces_below : (cs : List ℕ) → Cutting n ls cs → ((p : ℕ) → p < n → Outside cs p → says rule ls p ≡ none) → Below n (pieces same (says rule ls) cs) (says rule ls)
+  pieces_below : (cs : List ℕ) → Cutting n ls cs → ((p : ℕ) → p < n → Outside cs p → says rule ls p ≡ None) → Below n (pieces same (says rule ls) cs) (says rule ls)
   unfolding pieces
   pieces_below [] t out = skip_below 0 n [] (says rule ls) (nothing_below (says rule ls)) (omega arith) (λ p h m. out p m tt)
   pieces_below (c ∷ cs) t out =
@@ -66,7 +67,7 @@ module _ {A B : Type 0} (same : B → B → Bool) (law : Decides same) (rule : L
     runs_only xs b = below_only n xs (runs same rule n ls) (says rule ls) b runs_below
 
     -- where the rule admits no point without a range, the cuts at the line's ends change nothing
-    pub runs_cuts : rule (nones ls) ≡ none → pieces same (says rule ls) (cuts ls) ≡ runs same rule n ls
+    pub runs_cuts : rule (nones ls) ≡ None → pieces same (says rule ls) (cuts ls) ≡ runs same rule n ls
     runs_cuts q = runs_only (pieces same (says rule ls) (cuts ls)) (pieces_below (cuts ls) t (λ p h o. ap rule (column_outside n ls (cuts ls) t p o) ∙ q))
       where
         t : Cutting n ls (cuts ls)

@@ -3,9 +3,9 @@ use Prim.Native.Nat.{ℕ}
 use mathlib.Core.Path.{◌≡◌, refl, sym, ◌∙◌, ap}
 use mathlib.Core.List.{[], ◌∷◌}
 use lib.ListN.{get_or}
-use Rattle.rules.specs.Answer.{Outcome, leaves, code_of, number_of}
-use Rattle.rules.specs.declared.Answer.{Answer}
-use Rattle.rules.specs.declared.Answer.TheVariants.{Done, TooManyLists, NotTwoLists, TooManyRanges, ColumnsDiffer, Backward, Overlap, UnknownCombiner, NoRoom}
+use Rattle.std.specs.declared.result.Result.TheVariants.{Ok, Err}
+use Rattle.rules.specs.Answer.{Answer, Outcome, leaves, code_of, number_of}
+use Rattle.rules.specs.declared.Refusal.TheVariants.{TooManyLists, NotTwoLists, TooManyRanges, ColumnsDiffer, Backward, Overlap, UnknownCombiner, NoRoom}
 use Rattle.rules.specs.Said.{Said}
 
 pub said : {C : Type 0} {o : Outcome C} {a : Answer} {c : C} {code number : ℕ} → ◌≡◌ {A = Outcome C} (record { answer = a; columns = c }) o → code ≡ code_of a → number ≡ number_of a → Said o code number c
@@ -13,18 +13,18 @@ said e p q = record { code = p ∙ ap (λ o. code_of o.answer) e; number = q ∙
 
 -- the answer that a code and a number tell
 abbrev pub answer_of : ℕ → ℕ → Answer
-answer_of code number = get_or (Done number ∷ TooManyLists ∷ NotTwoLists ∷ TooManyRanges ∷ ColumnsDiffer ∷ Backward number ∷ Overlap number ∷ UnknownCombiner ∷ []) code (NoRoom number)
+answer_of code number = get_or (Ok number ∷ Err TooManyLists ∷ Err NotTwoLists ∷ Err TooManyRanges ∷ Err ColumnsDiffer ∷ Err (Backward number) ∷ Err (Overlap number) ∷ Err UnknownCombiner ∷ []) code (Err (NoRoom number))
 
 pub answer_told : (a : Answer) → answer_of (code_of a) (number_of a) ≡ a
-answer_told (Done n) = refl
-answer_told TooManyLists = refl
-answer_told NotTwoLists = refl
-answer_told TooManyRanges = refl
-answer_told ColumnsDiffer = refl
-answer_told (Backward i) = refl
-answer_told (Overlap i) = refl
-answer_told UnknownCombiner = refl
-answer_told (NoRoom n) = refl
+answer_told (Ok n) = refl
+answer_told (Err TooManyLists) = refl
+answer_told (Err NotTwoLists) = refl
+answer_told (Err TooManyRanges) = refl
+answer_told (Err ColumnsDiffer) = refl
+answer_told (Err (Backward i)) = refl
+answer_told (Err (Overlap i)) = refl
+answer_told (Err UnknownCombiner) = refl
+answer_told (Err (NoRoom n)) = refl
 
 -- what is said is the whole outcome
 pub said_tells : {C : Type 0} {o : Outcome C} {code number : ℕ} {c : C} → Said o code number c → leaves (answer_of code number) c ≡ o

@@ -3,7 +3,8 @@ use Prim.Native.Nat.{ℕ}
 use mathlib.Core.Path.{◌≡◌, refl, sym, ap}
 use mathlib.Core.Logic.{◌≢◌}
 use mathlib.Core.Bool.{Bool, true, false, ◌&&◌, true≢false, false≢true}
-use mathlib.Core.Option.{Option, none, some}
+use Rattle.std.specs.declared.option.Option.{Option}
+use Rattle.std.specs.declared.option.Option.TheVariants.{None, Some}
 use native.Mathlib.Omega.{arith}
 use lib.IntN.{ℤ, pos, negsuc}
 use lib.Dec.{eqb}
@@ -12,8 +13,8 @@ use Rattle.rules.specs.Same.{Decides, eq_ℤ, eq_option, eq_pair}
 use Rattle.rules.specs.TwoWay.{same_match}
 
 -- nothing is not something
-pub none≢some : {A : Type 0} (v : A) → none ≢ some v
-none≢some v e = let z : ◌≡◌ {A = ℕ} 0 1 = cc in omega arith
+pub None≢Some : {A : Type 0} (v : A) → None ≢ Some v
+None≢Some v e = let z : ◌≡◌ {A = ℕ} 0 1 = cc in omega arith
 
 decides_ℕ : Decides eqb
 decides_ℕ = record { equal = eqb-true; differ = eqb-false }
@@ -38,16 +39,16 @@ module _ {A : Type 0} (same : A → A → Bool) (law : Decides same) where
   decides_option = record { equal = equal; differ = differ }
     where
       equal : (a b : Option A) → eq_option same a b ≡ true → a ≡ b
-      equal none none e = refl
-      equal none (some b) e = absurd (false≢true e)
-      equal (some a) none e = absurd (false≢true e)
-      equal (some a) (some b) e = ap {B = Option A} some (law.equal a b e)
+      equal None None e = refl
+      equal None (Some b) e = absurd (false≢true e)
+      equal (Some a) None e = absurd (false≢true e)
+      equal (Some a) (Some b) e = ap {B = Option A} Some (law.equal a b e)
 
       differ : (a b : Option A) → eq_option same a b ≡ false → a ≡ b → ⊥
-      differ none none e q = true≢false e
-      differ none (some b) e q = none≢some b q
-      differ (some a) none e q = none≢some a (sym q)
-      differ (some a) (some b) e q = law.differ a b e (cc)
+      differ None None e q = true≢false e
+      differ None (Some b) e q = None≢Some b q
+      differ (Some a) None e q = None≢Some a (sym q)
+      differ (Some a) (Some b) e q = law.differ a b e (cc)
 
   pub decides_pair : {B : Type 0} (like : B → B → Bool) → Decides like → Decides (eq_pair same like)
   decides_pair {B} like rule = record { equal = λ a b e. equal a b (same a.0 b.0) refl e; differ = λ a b e q. differ a b (same a.0 b.0) refl e (λ i. (q i).0) (λ i. (q i).1) }

@@ -3,33 +3,33 @@ use Prim.Native.Nat.{ℕ, ◌+◌, ◌-◌, ◌≤◌, ◌<◌, min}
 use mathlib.Core.Path.{◌≡◌, refl, sym, ◌∙◌, ap}
 use mathlib.Core.Logic.{◌↔◌, ◌⊎◌, inl, inr, ⊎_elim}
 use mathlib.Core.Bool.{Bool, true, false, cond, true≢false, false≢true}
-use mathlib.Core.Option.{Option, none, some}
+use Rattle.std.specs.declared.option.Option.{Option}
+use Rattle.std.specs.declared.option.Option.TheVariants.{None, Some}
 use mathlib.Core.List.{List, [], ◌∷◌}
 use native.Mathlib.Omega.{arith}
 use lib.IntN.{ℤ, pos}
 use lib.ListN.{length, get_or, length-append, length-map, length-take, length-drop}
+use Rattle.std.specs.declared.result.Result.TheVariants.{Ok, Err}
 use Rattle.rules.specs.Piece.{Piece, at, Within, WellFormed, Apart, Differ}
 use Rattle.rules.specs.Runs.{says}
 use Rattle.rules.specs.Lists.{Width, Lent, tracks}
-use Rattle.rules.specs.Answer.{Outcome, judge, settle, laid}
+use Rattle.rules.specs.Answer.{Judgement, Outcome, judge, settle, laid}
 use Rattle.rules.specs.declared.Pairing.{Pairing}
 use Rattle.rules.specs.declared.Pairing.TheVariants.{Inner, Left, Full}
 use Rattle.rules.specs.TwoWay.{Match, keeps, pair_rule, same_match, paired, kept}
 use Rattle.rules.specs.Paired.{Paired, room, lay}
 use Rattle.rules.specs.Outcomes.{pairing}
 use Rattle.rules.specs.Proving.Below.{Below}
-use Rattle.rules.specs.declared.Judgement.{Judgement}
-use Rattle.rules.specs.declared.Judgement.TheVariants.{Sound, Refused}
 use Rattle.rules.specs.declared.Kind.TheVariants.{TwoWay}
 use Rattle.rules.proofs.At.{at_in, at_before, at_after, at_early, le_or_lt}
-use Rattle.rules.proofs.Same.{none≢some, decides_match}
+use Rattle.rules.proofs.Same.{None≢Some, decides_match}
 use Rattle.rules.proofs.Present.{Something, there_exactly}
 use Rattle.rules.proofs.Refusals.{lacks, fits}
 use Rattle.rules.proofs.Runs.{runs_below, runs_only}
 
 module _ (o : Pairing) (n : ℕ) (l r : List (Piece ℕ)) (u : WellFormed n l) (w : WellFormed n r) where
   -- ascending, exactly the points that the operation keeps, each with the places that cover it, and touching pieces differ in one
-  pub paired_cut : Below n (paired o n (l ∷ r ∷ [])) (λ p. cond (keeps o (at l p, at r p)) (some (at l p, at r p)) none)
+  pub paired_cut : Below n (paired o n (l ∷ r ∷ [])) (λ p. cond (keeps o (at l p, at r p)) (Some (at l p, at r p)) None)
   unfolding paired
   paired_cut = runs_below same_match decides_match (pair_rule o) n (l ∷ r ∷ []) (u, (w, tt))
 
@@ -45,29 +45,29 @@ Covers Left a b = Something a
 Covers Full a b = Something a ⊎ Something b
 
 covers : (o : Pairing) (a b : Option ℕ) → keeps o (a, b) ≡ true → Covers o a b
-covers Inner (some i) (some j) e = ((i, refl), (j, refl))
-covers Inner (some i) none e = absurd (false≢true e)
-covers Inner none b e = absurd (false≢true e)
+covers Inner (Some i) (Some j) e = ((i, refl), (j, refl))
+covers Inner (Some i) None e = absurd (false≢true e)
+covers Inner None b e = absurd (false≢true e)
 covers Left a b e = (there_exactly a).0 e
-covers Full (some i) b e = inl (i, refl)
-covers Full none b e = inr ((there_exactly b).0 e)
+covers Full (Some i) b e = inl (i, refl)
+covers Full None b e = inr ((there_exactly b).0 e)
 
 leaves_out : (o : Pairing) (a b : Option ℕ) → keeps o (a, b) ≡ false → Covers o a b → ⊥
-leaves_out Inner none b e c = none≢some c.0.0 c.0.1
-leaves_out Inner (some i) b e c = true≢false (sym ((there_exactly b).1 c.1) ∙ e)
+leaves_out Inner None b e c = None≢Some c.0.0 c.0.1
+leaves_out Inner (Some i) b e c = true≢false (sym ((there_exactly b).1 c.1) ∙ e)
 leaves_out Left a b e c = true≢false (sym ((there_exactly a).1 c) ∙ e)
-leaves_out Full (some i) b e c = true≢false e
-leaves_out Full none b e (inl c) = none≢some c.0 c.1
-leaves_out Full none b e (inr c) = true≢false (sym ((there_exactly b).1 c) ∙ e)
+leaves_out Full (Some i) b e c = true≢false e
+leaves_out Full None b e (inl c) = None≢Some c.0 c.1
+leaves_out Full None b e (inr c) = true≢false (sym ((there_exactly b).1 c) ∙ e)
 
 module _ (o : Pairing) (n : ℕ) (l r : List (Piece ℕ)) (u : WellFormed n l) (w : WellFormed n r) where
   -- a point has the places that cover it, exactly where the operation admits them
-  pub paired_at : (p : ℕ) → p < n → (m : Match) → (at (paired o n (l ∷ r ∷ [])) p ≡ some m) ↔ ((m ≡ (at l p, at r p)) × Covers o (at l p) (at r p))
+  pub paired_at : (p : ℕ) → p < n → (m : Match) → (at (paired o n (l ∷ r ∷ [])) p ≡ Some m) ↔ ((m ≡ (at l p, at r p)) × Covers o (at l p) (at r p))
   paired_at p h m = rw ((paired_cut o n l r u w).agrees p h) (go (keeps o (at l p, at r p)) refl)
     where
-      go : (t : Bool) → keeps o (at l p, at r p) ≡ t → (cond t (some (at l p, at r p)) none ≡ some m) ↔ ((m ≡ (at l p, at r p)) × Covers o (at l p) (at r p))
-      go true e = (λ q. (cc, covers o (at l p) (at r p) e), λ c. ap some (sym c.0))
-      go false e = (λ q. absurd (none≢some m q), λ c. absurd (leaves_out o (at l p) (at r p) e c.1))
+      go : (t : Bool) → keeps o (at l p, at r p) ≡ t → (cond t (Some (at l p, at r p)) None ≡ Some m) ↔ ((m ≡ (at l p, at r p)) × Covers o (at l p) (at r p))
+      go true e = (λ q. (cc, covers o (at l p) (at r p) e), λ c. ap Some (sym c.0))
+      go false e = (λ q. absurd (None≢Some m q), λ c. absurd (leaves_out o (at l p) (at r p) e c.1))
 
 module _ {A : Type 0} where
   pub within_low : (b c n : ℕ) (xs : List (Piece A)) → b ≤ c → Within c n xs → Within b n xs
@@ -86,8 +86,8 @@ module _ {A : Type 0} (test : A → Bool) where
   only (x ∷ xs) = let rest = only xs in cond (test x.value) (x ∷ rest) rest
 
   abbrev pub passed : Option A → Option A
-  passed none = none
-  passed (some v) = cond (test v) (some v) none
+  passed None = None
+  passed (Some v) = cond (test v) (Some v) None
 
   only_within : (b c : ℕ) (xs : List (Piece A)) → Within b c xs → Within b c (only xs)
   only_within b c [] w = w
@@ -135,12 +135,12 @@ kept_only o [] = refl
 kept_only o (x ∷ xs) = rw (kept_only o xs)
 
 -- full keeps whatever another keeps
-full_keeps : (o : Pairing) (a b : Option ℕ) → passed (keeps o) (cond (keeps Full (a, b)) (some (a, b)) none) ≡ cond (keeps o (a, b)) (some (a, b)) none
-full_keeps o (some i) b = refl
-full_keeps o none (some j) = refl
-full_keeps Inner none none = refl
-full_keeps Left none none = refl
-full_keeps Full none none = refl
+full_keeps : (o : Pairing) (a b : Option ℕ) → passed (keeps o) (cond (keeps Full (a, b)) (Some (a, b)) None) ≡ cond (keeps o (a, b)) (Some (a, b)) None
+full_keeps o (Some i) b = refl
+full_keeps o None (Some j) = refl
+full_keeps Inner None None = refl
+full_keeps Left None None = refl
+full_keeps Full None None = refl
 
 -- each operation is the same cutting, with the runs that it keeps
 pub paired_kept : (o : Pairing) (n : ℕ) (l r : List (Piece ℕ)) → WellFormed n l → WellFormed n r → paired o n (l ∷ r ∷ []) ≡ kept o (paired Full n (l ∷ r ∷ []))
@@ -177,8 +177,8 @@ module _ {P : Type 0} where
   alike_by p q r = rw (p, q) r
 
   settle_alike : (j : Judgement) (needed room : ℕ) (b b' a a' : Paired P) → Alike b b' → Alike a a' → AlikeOutcomes (settle j needed room b a) (settle j needed room b' a')
-  settle_alike (Refused x) needed room b b' a a' h k = record { answer = refl; columns = h }
-  settle_alike Sound needed room b b' a a' h k =
+  settle_alike (Err x) needed room b b' a a' h k = record { answer = refl; columns = h }
+  settle_alike (Ok u) needed room b b' a a' h k =
       ⊎_elim
       (λ l. alike_by (fits needed room b a l) (fits needed room b' a' l) (record { answer = refl; columns = k }))
       (λ l. alike_by (lacks needed room b a l) (lacks needed room b' a' l) (record { answer = refl; columns = h }))

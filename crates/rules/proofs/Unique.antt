@@ -2,18 +2,19 @@
 use Prim.Native.Nat.{ℕ, ◌+◌, ◌≤◌, ◌<◌}
 use mathlib.Core.Path.{◌≡◌, refl, sym, ◌∙◌}
 use mathlib.Core.Logic.{◌⊎◌, inl, inr}
-use mathlib.Core.Option.{Option, none, some}
+use Rattle.std.specs.declared.option.Option.{Option}
+use Rattle.std.specs.declared.option.Option.TheVariants.{None, Some}
 use mathlib.Core.List.{List, [], ◌∷◌}
 use native.Mathlib.Omega.{arith}
 use Rattle.rules.specs.Piece.{Piece, at, Within, Apart, Differ, Canonical}
 use Rattle.rules.proofs.At.{at_in, at_after, at_early, le_or_lt}
 
 module _ {A : Type 0} where
-  clash : {o : Option A} {v : A} → o ≡ some v → o ≡ none → ⊥
+  clash : {o : Option A} {v : A} → o ≡ Some v → o ≡ None → ⊥
   clash p q = let z : ◌≡◌ {A = ℕ} 0 1 = cc in omega arith
 
   -- the piece that ended at c is not carried on by the next
-  stops : (c d : ℕ) (v : A) (xs : List (Piece A)) → Within c d xs → Apart c v xs → at xs c ≡ some v → ⊥
+  stops : (c d : ℕ) (v : A) (xs : List (Piece A)) → Within c d xs → Apart c v xs → at xs c ≡ Some v → ⊥
   stops c d v [] w a e = clash e refl
   stops c d v (x ∷ xs) w a e = go (le_or_lt x.start c)
     where

@@ -3,6 +3,7 @@ use Rattle.std.specs.Prelude.{ℕ, zero, suc, ◌+◌, ◌-◌, ◌^◌, cond, L
 use Rattle.std.specs.Borrow.{Bor, MutBor}
 use denote.Triple.Both.{Both}
 use Rattle.rules.specs.Piece.{Piece, Range}
+use Rattle.rules.specs.declared.Lists.{Lists}
 
 -- A kind of point: how many there are, the key of a point, which is its distance from the least, and the point with a key.
 pub record Width (P : Type 0) : Type 0 where
@@ -51,6 +52,10 @@ lent s e v n = record { starts = s.now; ends = e.now; values = v.now; counts = n
 
 abbrev pub given : {P : Type 0} → Columns P → Columns P → Columns ℤ → Columns ℕ → Lent P
 given s e v n = lent s.entry e.entry v.entry n.entry
+
+-- the columns that lists hold
+abbrev pub held : {P : Type 0} → Lists P → Lent P
+held l = lent l.starts l.ends l.values l.counts
 
 -- the range at place i starts at s i, ends at e i and has the value v i
 module _ {A : Type 0} (s e : ℕ → ℕ) (v : ℕ → A) where

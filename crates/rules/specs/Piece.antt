@@ -1,6 +1,7 @@
 -- Pieces: inclusive ranges of points, each with a value. A point is told by its key, its distance from the least point. Assumes nothing.
 use Rattle.std.specs.Prelude.{ℕ, ◌+◌, ◌≤◌, ◌≡◌, ◌≢◌, Bool, true, false, cond, ◌&&◌, List, [], ◌∷◌, map, ℤ, leb}
-use Rattle.std.proofs.Math.Option.{Option, none, some}
+use Rattle.std.specs.declared.option.Option.{Option}
+use Rattle.std.specs.declared.option.Option.TheVariants.{None, Some}
 
 pub record Piece (A : Type 0) : Type 0 where
   pub start : ℕ
@@ -18,8 +19,8 @@ module _ {A : Type 0} where
 
   -- the value of the first piece that holds p
   abbrev pub at : List (Piece A) → ℕ → Option A
-  at [] p = none
-  at (x ∷ xs) p = let rest = at xs p in cond (holds x p) (some x.value) rest
+  at [] p = None
+  at (x ∷ xs) p = let rest = at xs p in cond (holds x p) (Some x.value) rest
 
   -- what each of some lists has at p, in list order
   abbrev pub column : List (List (Piece A)) → ℕ → List (Option A)
@@ -27,14 +28,14 @@ module _ {A : Type 0} where
 
   -- whether a list has something there
   abbrev pub there : Option A → Bool
-  there none = false
-  there (some v) = true
+  there None = false
+  there (Some v) = true
 
   -- the values of the lists present, in list order
   abbrev pub present : List (Option A) → List A
   present [] = []
-  present (none ∷ os) = present os
-  present (some v ∷ os) = v ∷ present os
+  present (None ∷ os) = present os
+  present (Some v ∷ os) = v ∷ present os
 
   -- the pieces ascend, none empty, among the points from c up to but not n
   abbrev pub Within : ℕ → ℕ → List (Piece A) → Type 0

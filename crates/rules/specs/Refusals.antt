@@ -1,10 +1,10 @@
 -- The table of refusals: when each answer is due, apart from the order, and the order. Assumes nothing.
 use Rattle.std.specs.Prelude.{ℕ, ◌-◌, ◌≤◌, ◌<◌, ◌≡◌, ◌≢◌, ◌⊎◌, Bool, true, false, cond, List, [], ◌∷◌, ltb, length}
+use Rattle.std.specs.declared.result.Result.TheVariants.{Ok, Err}
 use Rattle.rules.specs.Piece.{AllWellFormed}
 use Rattle.rules.specs.Lists.{Width, Lent, keys, total, tracks}
-use Rattle.rules.specs.Answer.{two_way, unknown_combiner}
-use Rattle.rules.specs.declared.Answer.{Answer}
-use Rattle.rules.specs.declared.Answer.TheVariants.{Done, TooManyLists, NotTwoLists, TooManyRanges, ColumnsDiffer, Backward, Overlap, UnknownCombiner, NoRoom}
+use Rattle.rules.specs.Answer.{Answer, two_way, unknown_combiner}
+use Rattle.rules.specs.declared.Refusal.TheVariants.{TooManyLists, NotTwoLists, TooManyRanges, ColumnsDiffer, Backward, Overlap, UnknownCombiner, NoRoom}
 use Rattle.rules.specs.declared.Kind.{Kind}
 
 -- the range at the flat index i has one before it in its list
@@ -14,15 +14,15 @@ follows (n ∷ ns) i = let later = follows ns (i - n) in cond (ltb i n) (ltb 0 i
 
 -- 1, 2, 4, 3, 7, then the first faulty range, then 8
 abbrev pub turn : Answer → ℕ
-turn TooManyLists = 0
-turn NotTwoLists = 1
-turn ColumnsDiffer = 2
-turn TooManyRanges = 3
-turn UnknownCombiner = 4
-turn (Backward i) = 5
-turn (Overlap i) = 5
-turn (NoRoom n) = 6
-turn (Done n) = 7
+turn (Err TooManyLists) = 0
+turn (Err NotTwoLists) = 1
+turn (Err ColumnsDiffer) = 2
+turn (Err TooManyRanges) = 3
+turn (Err UnknownCombiner) = 4
+turn (Err (Backward i)) = 5
+turn (Err (Overlap i)) = 5
+turn (Err (NoRoom n)) = 6
+turn (Ok n) = 7
 
 -- starts, ends and values have one length, and the counts add up to it
 pub record Agree {P : Type 0} (l : Lent P) : Type 0 where
@@ -53,15 +53,15 @@ module _ {P : Type 0} (w : Width P) (l : Lent P) where
 
 module _ {P : Type 0} (w : Width P) (k : Kind) (l : Lent P) (needed room : ℕ) where
   abbrev pub Due : Answer → Type 0
-  Due TooManyLists = 16 < length l.counts
-  Due NotTwoLists = (two_way k ≡ true) × (length l.counts ≢ 2)
-  Due TooManyRanges = 2048 < length l.starts
-  Due ColumnsDiffer = Agree l → ⊥
-  Due (Backward i) = FirstFault w l i × IsBackward w l i
-  Due (Overlap i) = FirstFault w l i × (IsBackward w l i → ⊥) × IsOverlap w l i
-  Due UnknownCombiner = unknown_combiner k ≡ true
-  Due (NoRoom n) = (room < needed) × (n ≡ needed)
-  Due (Done n) = n ≡ needed
+  Due (Err TooManyLists) = 16 < length l.counts
+  Due (Err NotTwoLists) = (two_way k ≡ true) × (length l.counts ≢ 2)
+  Due (Err TooManyRanges) = 2048 < length l.starts
+  Due (Err ColumnsDiffer) = Agree l → ⊥
+  Due (Err (Backward i)) = FirstFault w l i × IsBackward w l i
+  Due (Err (Overlap i)) = FirstFault w l i × (IsBackward w l i → ⊥) × IsOverlap w l i
+  Due (Err UnknownCombiner) = unknown_combiner k ≡ true
+  Due (Err (NoRoom n)) = (room < needed) × (n ≡ needed)
+  Due (Ok n) = n ≡ needed
 
   -- an answer is given exactly when it is due and none of an earlier turn is
   abbrev pub Given : Answer → Type 0

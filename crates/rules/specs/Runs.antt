@@ -1,6 +1,7 @@
 -- Every operation is a point rule, and its answer is the list of maximal runs of that rule. A rule says of what the lists have at a point: not admitted, or admitted with this value. Assumes nothing.
 use Rattle.std.specs.Prelude.{ℕ, pred, ◌+◌, Bool, true, false, cond, ◌&&◌, List, [], ◌∷◌, ltb, eqb}
-use Rattle.std.proofs.Math.Option.{Option, none, some}
+use Rattle.std.specs.declared.option.Option.{Option}
+use Rattle.std.specs.declared.option.Option.TheVariants.{None, Some}
 use Rattle.rules.specs.Piece.{Piece, column}
 
 -- a cut in its place among ascending ones, once
@@ -41,8 +42,8 @@ module _ {B : Type 0} (same : B → B → Bool) where
 
   -- the points from c up to but not d, all of them with what o says
   abbrev pub extend : Option B → ℕ → ℕ → List (Piece B) → List (Piece B)
-  extend none c d xs = xs
-  extend (some v) c d xs = push xs (record { start = c; end = pred d; value = v })
+  extend None c d xs = xs
+  extend (Some v) c d xs = push xs (record { start = c; end = pred d; value = v })
 
   -- from each cut to the next what f says at the first of its points
   abbrev pub fill : (ℕ → Option B) → ℕ → List ℕ → List (Piece B) → List (Piece B)

@@ -1,6 +1,7 @@
 -- Tests for equality of values. Assumes nothing.
 use Rattle.std.specs.Prelude.{◌≡◌, Bool, true, false, ◌&&◌, ℤ, pos, negsuc, eqb}
-use Rattle.std.proofs.Math.Option.{Option, none, some}
+use Rattle.std.specs.declared.option.Option.{Option}
+use Rattle.std.specs.declared.option.Option.TheVariants.{None, Some}
 
 -- what a test for equality is
 pub record Decides {B : Type 0} (same : B → B → Bool) : Type 0 where
@@ -15,10 +16,10 @@ eq_ℤ (negsuc a) (negsuc b) = eqb a b
 
 module _ {A : Type 0} (same : A → A → Bool) where
   abbrev pub eq_option : Option A → Option A → Bool
-  eq_option none none = true
-  eq_option none (some b) = false
-  eq_option (some a) none = false
-  eq_option (some a) (some b) = same a b
+  eq_option None None = true
+  eq_option None (Some b) = false
+  eq_option (Some a) None = false
+  eq_option (Some a) (Some b) = same a b
 
   abbrev pub eq_pair : {B : Type 0} → (B → B → Bool) → A × B → A × B → Bool
   eq_pair like a b = same a.0 b.0 && like a.1 b.1

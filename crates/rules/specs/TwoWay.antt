@@ -1,6 +1,7 @@
 -- Two-way operations: the line is cut where the covering left range, or the covering right range, or either's absence, changes. A range is known by its place, so nothing merges; values are read when the runs are found. Assumes nothing.
 use Rattle.std.specs.Prelude.{ℕ, max, min, Bool, cond, ◌&&◌, ◌||◌, List, [], ◌∷◌, ◌++◌, eqb, leb, ℤ, pos}
-use Rattle.std.proofs.Math.Option.{Option, none, some}
+use Rattle.std.specs.declared.option.Option.{Option}
+use Rattle.std.specs.declared.option.Option.TheVariants.{None, Some}
 use Rattle.rules.specs.Piece.{Piece, there}
 use Rattle.rules.specs.Same.{eq_option, eq_pair}
 use Rattle.rules.specs.Runs.{runs}
@@ -18,10 +19,10 @@ keeps Left m = there m.0
 keeps Full m = there m.0 || there m.1
 
 abbrev pub pair_rule : Pairing → List (Option ℕ) → Option Match
-pair_rule o [] = none
-pair_rule o (l ∷ []) = none
-pair_rule o (l ∷ r ∷ []) = cond (keeps o (l, r)) (some (l, r)) none
-pair_rule o (l ∷ r ∷ m ∷ ms) = none
+pair_rule o [] = None
+pair_rule o (l ∷ []) = None
+pair_rule o (l ∷ r ∷ []) = cond (keeps o (l, r)) (Some (l, r)) None
+pair_rule o (l ∷ r ∷ m ∷ ms) = None
 
 abbrev pub same_match : Match → Match → Bool
 same_match = eq_pair (eq_option eqb) (eq_option eqb)
@@ -33,21 +34,21 @@ paired o n ls = runs same_match (pair_rule o) n ls
 
 -- a missing side is written as value 0 with its presence bit clear: bit 0 left, bit 1 right
 abbrev pub side_value : (ℕ → ℤ) → Option ℕ → ℤ
-side_value v none = pos 0
-side_value v (some i) = v i
+side_value v None = pos 0
+side_value v (Some i) = v i
 
 abbrev pub presence : Match → ℕ
-presence (none, none) = 0
-presence (some i, none) = 1
-presence (none, some j) = 2
-presence (some i, some j) = 3
+presence (None, None) = 0
+presence (Some i, None) = 1
+presence (None, Some j) = 2
+presence (Some i, Some j) = 3
 
 -- the intersection of a left range and a right range, where they share a point
 abbrev pub meet : Piece ℕ → Piece ℕ → List (Piece Match)
 meet x y =
     let from = max x.start y.start in
     let upto = min x.end y.end in
-    cond (leb from upto) (record { start = from; end = upto; value = (some x.value, some y.value) } ∷ []) []
+    cond (leb from upto) (record { start = from; end = upto; value = (Some x.value, Some y.value) } ∷ []) []
 
 -- one piece for every left range and right range that share a point
 abbrev pub meet_all : Piece ℕ → List (Piece ℕ) → List (Piece Match)

@@ -2,18 +2,27 @@
 
 #![tactic(auto)]
 
-ghost use Rattle.std.specs.Prelude.{min, ◌≡◌};
-ghost use Rattle.rules.specs.Answer.{code_of, number_of};
+ghost use Rattle.std.specs.Prelude.{◌≡◌};
+ghost use Rattle.rules.specs.Answer.{refusal_code, refusal_number, code_of, number_of};
 
 // The most lists of one set, and the most ranges of its lists together.
 pub const MAX_LISTS: usize = 16;
 
 pub const MAX_RANGES: usize = 2048;
 
-// What a call answers: done, with the pieces written, or a refusal.
+// Lists as they are lent: columns of starts, ends and values, and one count per list; lists lie end to end in list order.
 #[derive(Clone, Copy)]
-pub enum Answer {
-    Done(usize),
+pub struct Lists<'a, P> {
+    pub starts: &'a [P],
+    pub ends: &'a [P],
+    pub values: &'a [i32],
+    pub counts: &'a [u32],
+}
+
+// Why a call is refused. What is found before an operation runs is `Result<(), Refusal>`; a call answers `Result<usize, Refusal>`, the
+// pieces written.
+#[derive(Clone, Copy, Debug, PartialEq, Eq)]
+pub enum Refusal {
     TooManyLists,
     NotTwoLists,
     TooManyRanges,
@@ -27,15 +36,35 @@ pub enum Answer {
     NoRoom(usize),
 }
 
-// What is found before an operation runs.
-#[derive(Clone, Copy)]
-pub enum Judgement {
-    Sound,
-    Refused(Answer),
+impl Refusal {
+    pub fn code(self) -> u8
+        ensures { result ≡ refusal_code self }
+    {
+        match self {
+            Refusal::TooManyLists => 1,
+            Refusal::NotTwoLists => 2,
+            Refusal::TooManyRanges => 3,
+            Refusal::ColumnsDiffer => 4,
+            Refusal::Backward(_) => 5,
+            Refusal::Overlap(_) => 6,
+            Refusal::UnknownCombiner => 7,
+            Refusal::NoRoom(_) => 8,
+        }
+    }
+
+    pub fn number(self) -> usize
+        ensures { result ≡ refusal_number self }
+    {
+        match self {
+            Refusal::Backward(i) | Refusal::Overlap(i) => i,
+            Refusal::NoRoom(n) => n,
+            _ => 0,
+        }
+    }
 }
 
 // What is to be done with the lists, as far as refusals tell it apart.
-#[derive(Clone, Copy)]
+#[derive(Clone, Copy, Debug, PartialEq, Eq)]
 pub enum Kind {
     Listing,
     TwoWay,
@@ -45,48 +74,28 @@ pub enum Kind {
 }
 
 // Which runs of two lists a two-way join keeps: those that both cover, that the left covers, or that either does.
-#[derive(Clone, Copy)]
+#[derive(Clone, Copy, Debug, PartialEq, Eq)]
 pub enum Pairing {
     Inner,
     Left,
     Full,
 }
 
-pub fn code(a: Answer) -> u8
-    ensures { result ≡ code_of a }
+// An answer's code, 0 where it is done, and its number, the pieces written or the refusal's.
+pub fn code(answer: Result<usize, Refusal>) -> u8
+    ensures { result ≡ code_of answer }
 {
-    match a {
-        Answer::Done(_) => 0,
-        Answer::TooManyLists => 1,
-        Answer::NotTwoLists => 2,
-        Answer::TooManyRanges => 3,
-        Answer::ColumnsDiffer => 4,
-        Answer::Backward(_) => 5,
-        Answer::Overlap(_) => 6,
-        Answer::UnknownCombiner => 7,
-        Answer::NoRoom(_) => 8,
+    match answer {
+        Ok(_) => 0,
+        Err(refusal) => refusal.code(),
     }
 }
 
-pub fn number(a: Answer) -> usize
-    ensures { result ≡ number_of a }
+pub fn number(answer: Result<usize, Refusal>) -> usize
+    ensures { result ≡ number_of answer }
 {
-    match a {
-        Answer::Done(n) => n,
-        Answer::Backward(i) => i,
-        Answer::Overlap(i) => i,
-        Answer::NoRoom(n) => n,
-        Answer::TooManyLists => 0,
-        Answer::NotTwoLists => 0,
-        Answer::TooManyRanges => 0,
-        Answer::ColumnsDiffer => 0,
-        Answer::UnknownCombiner => 0,
+    match answer {
+        Ok(pieces) => pieces,
+        Err(refusal) => refusal.number(),
     }
-}
-
-// The shorter of two lengths.
-pub fn shorter(a: usize, b: usize) -> usize
-    ensures { result ≡ min a b }
-{
-    if a < b { a } else { b }
 }

@@ -1,5 +1,4 @@
--- The laws of a selection: where stretches start and end, what the lists have, what is pending, and what a pass keeps.
+-- The laws of a selection: where its stretches start, what the lists have, and what its pass keeps.
 pub mod Stretches
 pub mod Carried
-pub mod Records
 pub mod Selects

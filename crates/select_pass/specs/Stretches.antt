@@ -1,21 +1,20 @@
 -- Where a selection's stretches start and how far they reach. Assumes nothing.
 use Rattle.std.specs.Prelude.{ℕ, ◌+◌, ◌≤◌, ◌<◌, ◌≡◌, cond, ◌&&◌, ltb}
+use Rattle.std.specs.declared.option.Option.{Option}
+use Rattle.std.specs.declared.option.Option.TheVariants.{None, Some}
 use Rattle.multiway_sweep.specs.Front.{edge}
-use Rattle.multiway_sweep.specs.Steps.{On}
-use Rattle.multiway_sweep.specs.declared.Step.{Step}
-use Rattle.multiway_sweep.specs.declared.Step.TheVariants.{Start, End, Done}
-use Rattle.select_pass.specs.declared.StretchStart.{StretchStart}
-use Rattle.select_pass.specs.declared.StretchStart.TheVariants.{At, Nowhere}
-use Rattle.select_pass.specs.declared.StretchBefore.{StretchBefore}
-use Rattle.select_pass.specs.declared.StretchBefore.TheVariants.{Of, Nothing}
+use Rattle.multiway_sweep.specs.Steps.{event_of}
+use Rattle.multiway_sweep.specs.declared.Range.{Range}
+use Rattle.multiway_sweep.specs.declared.Event.{Event}
+use Rattle.multiway_sweep.specs.declared.Event.TheVariants.{Start, End}
 
--- a stretch runs from where it starts to the last point that the event does not bear on; there is none where that comes first
-abbrev pub StretchesTo : Step → StretchStart → StretchBefore → Type 0
-StretchesTo e from (Of x) = (from ≡ At x.start) × On (λ v. (x.start < edge v) × (x.end + 1 ≡ edge v)) ⊥ e
-StretchesTo e from Nothing = (s : ℕ) → from ≡ At s → On (λ v. edge v ≤ s) (Unit {0}) e
+-- a stretch runs from where it starts to the last point that the event does not bear on; there is none where that comes first, or no event does
+abbrev pub StretchesTo : Option Event → Option ℕ → Option Range → Type 0
+StretchesTo None from r = r ≡ None
+StretchesTo (Some e) from (Some x) = (from ≡ Some x.start) × (x.start < edge (event_of e)) × (x.end + 1 ≡ edge (event_of e))
+StretchesTo (Some e) from None = (s : ℕ) → from ≡ Some s → edge (event_of e) ≤ s
 
 -- the next one starts where a range starts, or just past where one ends, unless no list is active then or that is the greatest point
-abbrev pub starts_after : Step → ℕ → ℕ → StretchStart
-starts_after (Start x list value z) n greatest = At x.start
-starts_after (End key list z) n greatest = cond (ltb 0 n && ltb key greatest) (At (key + 1)) Nowhere
-starts_after Done n greatest = Nowhere
+abbrev pub starts_after : Event → ℕ → ℕ → Option ℕ
+starts_after (Start x list value) n greatest = Some x.start
+starts_after (End key list) n greatest = cond (ltb 0 n && ltb key greatest) (Some (key + 1)) None

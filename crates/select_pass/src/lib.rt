@@ -1,137 +1,168 @@
-// A selection, after SweepSelectMap of the Rust, but for its columns: the stretch before an event, what is said of it, and what the
-// event changes.
+// One pass of a selection over the events of the lists, after SweepSelectMap of the Rust: the stretch before an event, what is said of
+// it, and what the event changes; the pieces are counted, and written where that is asked.
 
 #![tactic(auto)]
 
+ghost use Rattle.std.specs.Prelude.{◌≡◌, length, Some};
+ghost use Rattle.rules.specs.Lists.{lists, held};
+ghost use Rattle.rules.specs.Merged.{output, before, after, lay};
+ghost use Rattle.many_way_rules.specs.Operations.{merged};
+ghost use Rattle.many_way_rules.specs.declared.Pick.TheVariants.{Highest};
+ghost use Rattle.many_way_rules.specs.declared.Operation.TheVariants.{Select};
 ghost use Rattle.multiway_pass.specs.Pieces.{waiting};
+ghost use Rattle.multiway_pass.specs.Passes.{PutPieces, Mergeable};
 ghost use Rattle.select_pass.specs.Stretches.{StretchesTo};
-ghost use Rattle.select_pass.specs.Selections.{Carried, carried, carried_before, carried_after, kept, Keeps, Known, Says, Emits, Due, Takes};
+ghost use Rattle.select_pass.specs.Selections.{Blank, Keeps, Says, Emits, Due, Takes};
 
-use active_lists::{Active, HighestActive, activate, deactivate, highest, how_many, odd};
+use active_lists::Active;
+use integer::Integer;
 use many_way_rules::Admission;
-use multiway_pass::{Pending, Piece, Ruling, admits};
-use multiway_sweep::{Range, Step};
+use multiway_pass::{Piece, admits, push_merged, put};
+use multiway_sweep::{Event, Range, Sweep};
+use rules::Lists;
 
-// Where the current stretch starts, while a list is active.
-#[derive(Clone, Copy)]
-pub enum StretchStart {
-    At(u64),
-    Nowhere,
+// What the lists have on the current stretch: their values, and which of them are active; where it starts, while one is.
+#[derive(Drop)]
+pub struct Selection {
+    pub current: [i32; 16],
+    pub active: Active,
+    pub stretch_start: Option<u64>,
 }
 
-// The stretch before an event; nothing where it has no point, or no list is active on it.
-#[derive(Clone, Copy)]
-pub enum StretchBefore {
-    Of(Range),
-    Nothing,
-}
-
-// The stretch before an event: up to an end, or to the point before a start.
-pub fn stretch_before(event: Step, stretch_start: StretchStart) -> StretchBefore
+// The stretch before an event: up to an end, or to the point before a start. There is none where it has no point, or no list is active
+// on it.
+pub fn stretch_before(event: Option<Event>, stretch_start: Option<u64>) -> Option<Range>
     ensures { StretchesTo event stretch_start result }
 {
-    let StretchStart::At(start) = stretch_start else {
-        return StretchBefore::Nothing;
-    };
+    let start = stretch_start?;
     match event {
-        Step::Start(range, _, _, _) => {
-            if start < range.start {
-                return StretchBefore::Of(Range {
-                    start,
-                    end: range.start - 1,
-                });
-            }
-        }
-        Step::End(at, _, _) => {
-            if start <= at {
-                return StretchBefore::Of(Range { start, end: at });
-            }
-        }
-        Step::Done => {}
+        Some(Event::Start(range, _, _)) if start < range.start => Some(Range {
+            start,
+            end: range.start - 1,
+        }),
+        Some(Event::End(at, _)) if start <= at => Some(Range { start, end: at }),
+        _ => None,
     }
-    StretchBefore::Nothing
 }
 
 // Whether the points are admitted at which so many lists have what is active.
 fn keeps(admission: Admission, lists: usize, active: &Active) -> bool
-    ensures { Keeps admission lists (kept active.now) result }
+    ensures { Keeps admission lists active.now result }
 {
-    if let Admission::Odd = admission {
-        return odd(active);
+    match admission {
+        Admission::Odd => active.odd(),
+        _ => admits(admission, lists, active.how_many()),
     }
-    admits(admission, lists, how_many(active))
 }
 
-// What a selection says of a stretch: the value of the highest active list, where it is admitted.
-fn highest_value(
-    admission: Admission,
-    lists: usize,
-    current: &[i32; 16],
-    active: &mut Active,
-) -> Ruling
-    requires { Known (Carried current.now active.old) lists }
-    ensures { Says admission lists (Carried current.now active.old) (Carried current.now active.new) result }
-{
-    if !keeps(admission, lists, active) {
-        return Ruling::Nothing;
-    }
-    let top = highest(active);
-    let HighestActive::List(list) = top else {
-        return Ruling::Nothing;
-    };
-    let value = current[list];
-    Ruling::Value(value as i64)
-}
-
-// The piece of a stretch, if it is kept.
-pub fn emit(
-    admission: Admission,
-    lists: usize,
-    stretch: StretchBefore,
-    current: &[i32; 16],
-    active: &mut Active,
-) -> Pending
-    requires { Known (Carried current.now active.old) lists }
-    ensures { Emits admission lists (Carried current.now active.old) (Carried current.now active.new) stretch (waiting result) }
-{
-    let StretchBefore::Of(range) = stretch else {
-        return Pending::Nothing;
-    };
-    let ruling = highest_value(admission, lists, current, active);
-    let Ruling::Value(value) = ruling else {
-        return Pending::Nothing;
-    };
-    Pending::One(Piece {
-        start: range.start,
-        end: range.end,
-        value,
-    })
-}
-
-// Takes an event: its list becomes active with a value, or inactive. Tells where the next stretch starts; nothing is added to the
-// greatest point.
-pub fn take(
-    event: Step,
-    greatest: u64,
-    current: &mut [i32; 16],
-    active: &mut Active,
-) -> StretchStart
-    requires { Due (carried current active) event }
-    ensures { Takes event greatest (carried_before current active) (carried_after current active) result }
-{
-    match event {
-        Step::Start(range, list, value, _) => {
-            current[list] = value;
-            activate(active, list);
-            return StretchStart::At(range.start);
+impl Selection {
+    // No list is active.
+    pub fn new() -> Selection
+        ensures { Blank result }
+    {
+        Selection {
+            current: [0; 16],
+            active: Active::idle(),
+            stretch_start: None,
         }
-        Step::End(at, list, _) => {
-            deactivate(active, list);
-            if (0 < how_many(active)) & (at < greatest) {
-                return StretchStart::At(at + 1);
+    }
+
+    // What a selection says of a stretch: the value of the highest active list, where it is admitted.
+    fn highest_value(&mut self, admission: Admission, lists: usize) -> Option<i64>
+        ensures same { self.new ≡ self.old }
+        ensures says { Says admission lists self.old result }
+    {
+        if !keeps(admission, lists, &self.active) {
+            return None;
+        }
+        let list = self.active.highest()?;
+        Some(self.current[list] as i64)
+    }
+
+    // The piece of a stretch, if it is kept.
+    pub fn emit(
+        &mut self,
+        admission: Admission,
+        lists: usize,
+        stretch: Option<Range>,
+    ) -> Option<Piece>
+        ensures same { self.new ≡ self.old }
+        ensures piece { Emits admission lists self.old stretch (waiting result) }
+    {
+        let range = stretch?;
+        let value = self.highest_value(admission, lists)?;
+        Some(Piece {
+            start: range.start,
+            end: range.end,
+            value,
+        })
+    }
+
+    // Takes an event: its list becomes active with a value, or inactive. The next stretch starts there; nothing is added to the
+    // greatest point.
+    fn apply(&mut self, event: Event, greatest: u64)
+        requires { Due self.old (Some event) }
+        ensures { Takes (Some event) greatest self.old self.new }
+    {
+        match event {
+            Event::Start(range, list, value) => {
+                self.current[list] = value;
+                self.active.activate(list);
+                self.stretch_start = Some(range.start);
+            }
+            Event::End(at, list) => {
+                self.active.deactivate(list);
+                self.stretch_start = if (0 < self.active.how_many()) & (at < greatest) {
+                    Some(at + 1)
+                } else {
+                    None
+                };
             }
         }
-        Step::Done => {}
     }
-    StretchStart::Nowhere
+
+    // Takes what a step took; where that is nothing, no stretch starts any more.
+    pub fn take(&mut self, event: Option<Event>, greatest: u64)
+        requires { Due self.old event }
+        ensures { Takes event greatest self.old self.new }
+    {
+        match event {
+            Some(event) => self.apply(event, greatest),
+            None => self.stretch_start = None,
+        }
+    }
+}
+
+// One pass over all events: how many pieces there are. They are written where `write` says so. At each event the stretch before it makes
+// a piece, if it is kept, then the event is taken; n ranges have 2n events.
+pub fn pass<P: Integer>(
+    admission: Admission,
+    lent: Lists<P>,
+    write: bool,
+    out_start: &mut [P],
+    out_end: &mut [P],
+    out_value: &mut [i64],
+) -> usize
+    requires { Mergeable P.width (Select Highest admission) (held lent) write (output out_start out_end out_value) }
+    ensures { let xs = merged (Select Highest admission) P.width.points (lists P.width (held lent.entry)) in
+        PutPieces (lay P.width) write 0 xs (before out_start out_end out_value) (after out_start out_end out_value) result }
+{
+    let mut sweep = Sweep::new(lent);
+    let mut selection = Selection::new();
+    let mut pending = None;
+    let mut count: usize = 0;
+    for _ in 0..2 * lent.starts.len() {
+        let Some(event) = sweep.step(lent) else {
+            break;
+        };
+        let stretch = stretch_before(Some(event), selection.stretch_start);
+        let next = selection.emit(admission, lent.counts.len(), stretch);
+        selection.take(Some(event), P::greatest_key());
+        if let Some(piece) = next {
+            let pushed = push_merged(pending, piece);
+            count = put(write, count, pushed.done, out_start, out_end, out_value);
+            pending = Some(pushed.pending);
+        }
+    }
+    put(write, count, pending, out_start, out_end, out_value)
 }

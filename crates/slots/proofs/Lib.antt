@@ -1,4 +1,3 @@
 -- The laws of places and of figures over them.
 pub mod Tally
 pub mod Slots
-pub mod Kept

@@ -1,8 +1,9 @@
 -- What the lists have, as the code holds it: sixteen values, and which of them are present. Assumes nothing.
 use Rattle.std.specs.Prelude.{ℕ, zero, suc, ◌≤◌, ◌≡◌, Bool, false, cond, List, [], ◌∷◌, ℤ, pos, length, get_or}
-use Rattle.std.proofs.Math.Option.{Option, none, some}
+use Rattle.std.specs.declared.option.Option.{Option}
+use Rattle.std.specs.declared.option.Option.TheVariants.{None, Some}
 use Rattle.rules.specs.Piece as pieces
-use Rattle.rules.specs.Lists.{Columns, MutColumn, MutColumns}
+use Rattle.rules.specs.Lists.{Columns}
 
 pub record Slots : Type 0 where
   pub current : List ℤ
@@ -12,23 +13,13 @@ pub record Slots : Type 0 where
 abbrev pub slots_of : List ℤ → List Bool → Slots
 slots_of current present = record { current = current; present = present }
 
--- the places in a precondition, and in a promise at entry and at exit
-abbrev pub slots : MutColumn ℤ → MutColumn Bool → Slots
-slots current present = slots_of current.now present.now
-
-abbrev pub slots_before : MutColumns ℤ → MutColumns Bool → Slots
-slots_before current present = slots current.entry present.entry
-
-abbrev pub slots_after : MutColumns ℤ → MutColumns Bool → Slots
-slots_after current present = slots current.exit present.exit
-
 -- the places at entry with other values, for what goes by presence alone
 abbrev pub slots_with : List ℤ → Columns Bool → Slots
 slots_with current present = record { current = current; present = present.entry.now }
 
 -- what a place holds: its value, where it is present
 abbrev pub slot : Slots → ℕ → Option ℤ
-slot s i = cond (get_or s.present i false) (some (get_or s.current i (pos 0))) none
+slot s i = cond (get_or s.present i false) (Some (get_or s.current i (pos 0))) None
 
 -- what the n places from place i on hold
 abbrev pub slots_from : Slots → ℕ → ℕ → List (Option ℤ)

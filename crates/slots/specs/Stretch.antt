@@ -1,6 +1,6 @@
 -- A stretch: points on which the lists have the same. Whatever finds stretches promises this of each. Assumes nothing.
 use Rattle.std.specs.Prelude.{ℕ, ◌≤◌, ◌<◌, ◌≡◌, List}
-use Rattle.std.proofs.Math.Option.{Option}
+use Rattle.std.specs.declared.option.Option.{Option}
 use Rattle.rules.specs.Piece.{Piece, column}
 use Rattle.rules.specs.Proving.Below.{nones}
 

@@ -2,57 +2,43 @@
 
 #![tactic(auto)]
 
-pub mod instant;
-pub mod seat;
+mod drained;
 
 ghost use Rattle.std.specs.Prelude.{◌≤◌};
 
-// What a drained sweep gives beside the listing.
-#[derive(Clone, Copy)]
-pub enum Compared {
-    // So many events, all as they are listed.
-    Agree(usize),
-    // The first place where they are not.
-    Differ(usize),
-    // Nothing was listed.
-    Refused,
-}
+use drained::{Unlike, compared};
+use integer::{Instant, Seat};
+use std::{fmt, io};
 
-fn print_compared(found: Compared) {
-    match found {
-        Compared::Agree(events) => {
-            io::write_all(1, b" agree on ");
-            io::print_decimal(1, events as u64);
-            io::write_all(1, b" events");
-        }
-        Compared::Differ(place) => {
-            io::write_all(1, b" differ at ");
-            io::print_decimal(1, place as u64);
-        }
-        Compared::Refused => {
-            io::write_all(1, b" are refused");
+#[derive(Drop)]
+struct Found(Result<usize, Unlike>);
+
+impl fmt::Display for Found {
+    fn fmt<W: fmt::Write>(&self, f: &mut fmt::Formatter<W>) -> fmt::Result {
+        match self.0 {
+            Ok(events) => write!(f, "agree on {events} events"),
+            Err(Unlike::At(place)) => write!(f, "differ at {place}"),
+            Err(Unlike::Refused) => f.write_str("are refused"),
         }
     }
 }
 
 // The first n ranges, in lists that the counts tell.
-fn print_set(counts: &[u32], n: usize)
+fn print_set(rt: &HostRuntime, counts: &[u32], n: usize) -> io::Result<()>
     requires { n ≤ 8 }
 {
-    io::print_decimal(1, counts.len() as u64);
-    io::write_all(1, b" lists: seats");
-    print_compared(seat::compared(counts, n));
-    io::write_all(1, b", instants");
-    print_compared(instant::compared(counts, n));
-    io::write_all(1, b"\n");
+    let lists = counts.len();
+    let seats = Found(compared::<Seat>(counts, n, &mut [0; 8], &mut [0; 8], &mut [0; 16]));
+    let instants = Found(compared::<Instant>(counts, n, &mut [0; 8], &mut [0; 8], &mut [0; 16]));
+    println!(rt; "{lists} lists: seats {seats}, instants {instants}")
 }
 
-fn main() {
-    print_set(&[0], 0);
-    print_set(&[3], 3);
-    print_set(&[3, 2], 5);
-    print_set(&[3, 2, 3], 8);
-    print_set(&[0, 3, 0, 2, 3, 0], 8);
-    print_set(&[1, 1, 1, 1, 1, 1, 1, 1], 8);
-    print_set(&[1, 0, 1, 0, 1, 0, 1, 0, 1, 0, 1, 0, 1, 0, 0, 1], 8);
+fn main(rt: HostRuntime) -> io::Result<()> {
+    print_set(&rt, &[0], 0)?;
+    print_set(&rt, &[3], 3)?;
+    print_set(&rt, &[3, 2], 5)?;
+    print_set(&rt, &[3, 2, 3], 8)?;
+    print_set(&rt, &[0, 3, 0, 2, 3, 0], 8)?;
+    print_set(&rt, &[1, 1, 1, 1, 1, 1, 1, 1], 8)?;
+    print_set(&rt, &[1, 0, 1, 0, 1, 0, 1, 0, 1, 0, 1, 0, 1, 0, 0, 1], 8)
 }

@@ -15,7 +15,7 @@ use Rattle.rules.specs.declared.Kind.{Kind}
 use Rattle.rules.specs.declared.Kind.TheVariants.{TwoWay, Combining, Selection}
 use Rattle.many_way_rules.specs.Combiners.{known}
 use Rattle.many_way_rules.specs.Sheet.{Tariff, flat, lend}
-use Rattle.rules.specs.declared.Answer.TheVariants.{TooManyLists, NotTwoLists, TooManyRanges, ColumnsDiffer, UnknownCombiner}
+use Rattle.rules.specs.declared.Refusal.TheVariants.{TooManyLists, NotTwoLists, TooManyRanges, ColumnsDiffer, UnknownCombiner}
 use Rattle.tariff_file.specs.File.{lists_right, combiner_right, Head, Sound}
 use Rattle.tariff_file.specs.declared.Task.{Task}
 use Rattle.tariff_file.specs.declared.Task.TheVariants.{Pair, Merge, Choose}

@@ -2,15 +2,17 @@
 use Prim.Native.Nat.{ℕ, zero, suc, ◌+◌, ◌*◌, ◌≤◌, ◌<◌}
 use mathlib.Core.Path.{◌≡◌, refl, sym, ap, subst, subst₂, ◌∙◌}
 use mathlib.Core.Bool.{Bool, true, false, cond, ◌&&◌}
-use mathlib.Core.Option.{Option, none, some}
+use Rattle.std.specs.declared.option.Option.{Option}
+use Rattle.std.specs.declared.option.Option.TheVariants.{None, Some}
 use mathlib.Core.List.{List, [], ◌∷◌, ◌++◌, map, append-nil}
 use native.Mathlib.Omega.{arith}
 use lib.Dec.{ltb, leb}
 use lib.IntN.{ℤ}
-use lib.ListN.{length, get_elem?, take, length-append, length-take}
+use lib.ListN.{length, take, length-append, length-take}
+use Rattle.std.proofs.lemmas.Option.{slice_get_within}
 use borrow.Author.Tests.{lt-ltb, le-ltb, leb-true, le-leb, eqb-true}
 use Rattle.rules.specs.Lists.{total}
-use Rattle.rules.specs.declared.Answer.{Answer}
+use Rattle.rules.specs.declared.Refusal.{Refusal as CallRefusal}
 use Rattle.many_way_rules.specs.Sheet.{Typed, Tariff, flat}
 use Rattle.tariff_file.specs.Layout.{Bytes, AllHold, Layout, Held, sizes, record_bytes}
 use Rattle.tariff_file.specs.Reader.{Parsed, stop, got, Reader, Fault, one, record_at, ◌then◌}
@@ -32,7 +34,7 @@ Range x = AllHold range_layout.fields (range_held x)
 pub range_format : Format read_range range_single Range
 unfolding read_range
 range_format =
-    let asked : Held range_layout → Fault = λ v. none in
+    let asked : Held range_layout → Fault = λ v. None in
     let law = one_format range_layout asked (omega arith) in
     record {
       reads = λ x h. reads_last (one range_layout asked) held_range (range_held x) (range_single x) (law.reads (range_held x) (h, refl));
@@ -64,11 +66,11 @@ ranges_format n =
     (λ l h. (h.0, held_ranges l h.1))
 
 -- a test that has to hold for no fault
-pub unless_none : (t : Bool) (r : ℕ → Refusal) (next : Fault) → unless t r next ≡ none → (t ≡ true) × (next ≡ none)
+pub unless_none : (t : Bool) (r : ℕ → Refusal) (next : Fault) → unless t r next ≡ None → (t ≡ true) × (next ≡ None)
 unless_none true r next e = (refl, e)
-unless_none false r next e = absurd (let no : ◌≡◌ {A = ℕ} 0 1 = cc in omega arith)
+unless_none false r next e = cc
 
-pub none_unless : (t : Bool) (r : ℕ → Refusal) (next : Fault) → t ≡ true → next ≡ none → unless t r next ≡ none
+pub none_unless : (t : Bool) (r : ℕ → Refusal) (next : Fault) → t ≡ true → next ≡ None → unless t r next ≡ None
 none_unless t r next e f = (λ i. unless (e i) r (f i))
 
 -- a list after so many ranges
@@ -85,13 +87,13 @@ list_format before =
     record {
       reads = λ l h.
           reads_then here rest (list_held (length l)) l (single list_layout (list_fault before) (list_held (length l))) (range_records l)
-          (law.reads (list_held (length l)) ((omega arith, tt), none_unless (leb (before + length l) 2048) TooManyRanges none (le-leb (before + length l) 2048 h.0) refl))
+          (law.reads (list_held (length l)) ((omega arith, tt), none_unless (leb (before + length l) 2048) TooManyRanges None (le-leb (before + length l) 2048 h.0) refl))
           ((ranges_format (length l)).reads l (refl, h.1));
       only =
           only_then here rest (λ v rs. (rs ≡ single list_layout (list_fault before) v) × Fine list_layout (list_fault before) v) T law.only
           (λ v rs q. only_weaken (ranges_format v.0).only
           (λ l ss u.
-          let few = leb-true (before + v.0) 2048 (unless_none (leb (before + v.0) 2048) TooManyRanges none q.1.1).0 in
+          let few = leb-true (before + v.0) 2048 (unless_none (leb (before + v.0) 2048) TooManyRanges None q.1.1).0 in
           ((λ i. q.0 i ++ u.0 i) ∙ (λ i. record_bytes list_layout (list_held (sym u.1.0 i)) ∷ range_records l), (omega (arith, u.1.0, few), u.1.1))));
     }
 
@@ -119,14 +121,9 @@ lists_format n =
     (λ ls h. (h.0, few_lists 0 ls (omega arith) h.2))
 
 -- the head
-known_below : {A : Type 0} (l : List A) (n : ℕ) (x : A) → get_elem? l n ≡ some x → n < length l
-known_below [] n x e = absurd (let no : ◌≡◌ {A = ℕ} 0 1 = cc in omega arith)
-known_below (y ∷ l) zero x e = omega arith
-known_below (y ∷ l) (suc n) x e = omega (arith, known_below l n x e)
-
-operation_below : (o : ℕ) (k : Task) → task_of o ≡ some k → o < 256
+operation_below : (o : ℕ) (k : Task) → task_of o ≡ Some k → o < 256
 operation_below zero k e = omega arith
-operation_below (suc o) k e = omega (arith, known_below operations o k e)
+operation_below (suc o) k e = omega (arith, slice_get_within operations o k e)
 
 combiner_below : (k : Task) (c : ℕ) → combiner_right k c ≡ true → c < 256
 combiner_below (Pair p) c e = omega (arith, eqb-true c 0 e)
@@ -134,8 +131,8 @@ combiner_below (Merge a) c e = go (ltb 0 c) (leb c 5) refl e
   where
     go : (s t : Bool) → leb c 5 ≡ t → (s && t) ≡ true → c < 256
     go true true q e = omega (arith, leb-true c 5 q)
-    go true false q e = absurd (let no : ◌≡◌ {A = ℕ} 0 1 = cc in omega arith)
-    go false t q e = absurd (let no : ◌≡◌ {A = ℕ} 0 1 = cc in omega arith)
+    go true false q e = cc
+    go false t q e = cc
 combiner_below (Choose p a) c e = omega (arith, eqb-true c 0 e)
 
 module _ (h : Head) (ls : List (Tariff ℤ)) where
@@ -145,18 +142,18 @@ module _ (h : Head) (ls : List (Tariff ℤ)) where
       let c = h.combiner in
       let n = length ls in (
         (operation_below h.operation k s.operation_known, (combiner_below k c s.right_combiner, (omega (arith, s.few_lists), tt))),
-        ap (λ o. asked_of o c n) s.operation_known ∙ (λ i. unless (le-leb n 16 s.few_lists i) TooManyLists (unless (s.right_lists i) NotTwoLists (unless (s.right_combiner i) UnknownCombiner none))),
+        ap (λ o. asked_of o c n) s.operation_known ∙ (λ i. unless (le-leb n 16 s.few_lists i) TooManyLists (unless (s.right_lists i) NotTwoLists (unless (s.right_combiner i) UnknownCombiner None))),
       )
 
-  pub head_sound : head_fault (head_held h (length ls)) ≡ none → total (map length ls) ≤ 2048 → AllLists ls → Sound h ls
+  pub head_sound : head_fault (head_held h (length ls)) ≡ None → total (map length ls) ≤ 2048 → AllLists ls → Sound h ls
   head_sound e few held = go (task_of h.operation) refl e
     where
-      go : (o : Option Task) → task_of h.operation ≡ o → asked_of o h.combiner (length ls) ≡ none → Sound h ls
-      go none q e = absurd (let no : ◌≡◌ {A = ℕ} 0 1 = cc in omega arith)
-      go (some k) q e =
-          let x = unless_none (leb (length ls) 16) TooManyLists (unless (lists_right k (length ls)) NotTwoLists (unless (combiner_right k h.combiner) UnknownCombiner none)) e in
-          let y = unless_none (lists_right k (length ls)) NotTwoLists (unless (combiner_right k h.combiner) UnknownCombiner none) x.1 in
-          let z = unless_none (combiner_right k h.combiner) UnknownCombiner none y.1 in
+      go : (o : Option Task) → task_of h.operation ≡ o → asked_of o h.combiner (length ls) ≡ None → Sound h ls
+      go None q e = cc
+      go (Some k) q e =
+          let x = unless_none (leb (length ls) 16) TooManyLists (unless (lists_right k (length ls)) NotTwoLists (unless (combiner_right k h.combiner) UnknownCombiner None)) e in
+          let y = unless_none (lists_right k (length ls)) NotTwoLists (unless (combiner_right k h.combiner) UnknownCombiner None) x.1 in
+          let z = unless_none (combiner_right k h.combiner) UnknownCombiner None y.1 in
           record { task = k; operation_known = q; few_lists = leb-true (length ls) 16 x.0; right_lists = y.0; right_combiner = z.0; few_ranges = few; all_held = held }
 
 abbrev pub FileSound : File → Type 0
@@ -186,7 +183,7 @@ file_format =
           (λ ls ss u.
           let e = sym u.1.0 in (
             (λ i. q.0 i ++ u.0 i) ∙ (λ i. record_bytes head_layout (head_held h (e i)) ∷ flat (map list_records ls)),
-            head_sound h ls (subst (λ m. head_fault (head_held h m) ≡ none) e q.1.1) u.1.1 u.1.2,
+            head_sound h ls (subst (λ m. head_fault (head_held h m) ≡ None) e q.1.1) u.1.1 u.1.2,
           )));
     }
 
@@ -276,28 +273,28 @@ unfolding records_of
 records_accepted b h ls y e = long (ltb 45126 (length b)) e
   where
     go : (r : Parsed File) → read_file 0 b ≡ r → finish r ≡ accepted h ls → (b ≡ written h ls) × Sound h ls
-    go (stop r) q e = absurd (let no : ◌≡◌ {A = ℕ} 0 1 = cc in omega arith)
+    go (stop r) q e = cc
     go (got (g, ms) at []) q e =
         let eh : g ≡ h = cc in
         let el : ms ≡ ls = cc in
         let f = file_format.only 0 b (g, ms) at [] y q in
         (f.whole ∙ append-nil (flat f.records) ∙ ap flat f.fits.0 ∙ (λ i. written (eh i) (el i)), subst₂ Sound eh el f.fits.1)
-    go (got (g, ms) at (x ∷ more)) q e = absurd (let no : ◌≡◌ {A = ℕ} 0 1 = cc in omega arith)
+    go (got (g, ms) at (x ∷ more)) q e = cc
 
     long : (t : Bool) → cond t (refused TooLong) (finish (read_file 0 b)) ≡ accepted h ls → (b ≡ written h ls) × Sound h ls
-    long true e = absurd (let no : ◌≡◌ {A = ℕ} 0 1 = cc in omega arith)
+    long true e = cc
     long false e = go (read_file 0 b) refl e
 
 -- the records alone tell nothing of the ranges' form
-pub records_formed : (b : List ℕ) (a : Answer) → records_of b ≡ ill_formed a → ⊥
+pub records_formed : (b : List ℕ) (a : CallRefusal) → records_of b ≡ ill_formed a → ⊥
 unfolding records_of
 records_formed b a e = long (ltb 45126 (length b)) e
   where
     go : (r : Parsed File) → finish r ≡ ill_formed a → ⊥
-    go (stop r) e = let no : ◌≡◌ {A = ℕ} 0 1 = cc in omega arith
-    go (got (h, ls) at []) e = let no : ◌≡◌ {A = ℕ} 0 1 = cc in omega arith
-    go (got (h, ls) at (x ∷ b)) e = let no : ◌≡◌ {A = ℕ} 0 1 = cc in omega arith
+    go (stop r) e = cc
+    go (got (h, ls) at []) e = cc
+    go (got (h, ls) at (x ∷ b)) e = cc
 
     long : (t : Bool) → cond t (refused TooLong) (finish (read_file 0 b)) ≡ ill_formed a → ⊥
-    long true e = let no : ◌≡◌ {A = ℕ} 0 1 = cc in omega arith
+    long true e = cc
     long false e = go (read_file 0 b) e

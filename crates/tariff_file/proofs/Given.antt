@@ -3,7 +3,8 @@ use Prim.Native.Nat.{ℕ, ◌+◌, ◌<◌}
 use mathlib.Core.Path.{◌≡◌, refl, sym, ap, subst, ◌∙◌}
 use mathlib.Core.Logic.{◌↔◌, ◌⊎◌, inl, inr, ⊎_elim}
 use mathlib.Core.Bool.{Bool, true, false, cond}
-use mathlib.Core.Option.{Option, none, some}
+use Rattle.std.specs.declared.option.Option.{Option}
+use Rattle.std.specs.declared.option.Option.TheVariants.{None, Some}
 use mathlib.Core.List.{List, [], ◌∷◌}
 use native.Mathlib.Omega.{arith}
 use lib.Dec.{ltb, leb}
@@ -23,7 +24,7 @@ use Rattle.tariff_file.proofs.Halts.{before, fault, comes, Halt, halts}
 
 -- a fault, which q is or comes after
 abbrev Early : Fault → ℕ → Refusal → Type 0
-Early f at q = (g : ℕ → Refusal) × (f ≡ some g) × ((g at ≡ q) ⊎ (turn (g at) < turn q))
+Early f at q = (g : ℕ → Refusal) × (f ≡ Some g) × ((g at ≡ q) ⊎ (turn (g at) < turn q))
 
 unless_here : (t : Bool) (r : ℕ → Refusal) (next : Fault) (at : ℕ) → t ≡ false → Early (unless t r next) at (r at)
 unless_here t r next at e = (r, (λ i. unless (e i) r next), inl refl)
@@ -33,12 +34,12 @@ unless_early true r next at q h e = e
 unless_early false r next at q h e = (r, refl, inr h)
 
 -- the test that failed
-unless_some : (t : Bool) (r : ℕ → Refusal) (next : Fault) (g : ℕ → Refusal) → unless t r next ≡ some g → ((t ≡ false) × (r ≡ g)) ⊎ (next ≡ some g)
+unless_some : (t : Bool) (r : ℕ → Refusal) (next : Fault) (g : ℕ → Refusal) → unless t r next ≡ Some g → ((t ≡ false) × (r ≡ g)) ⊎ (next ≡ Some g)
 unless_some true r next g e = inr e
 unless_some false r next g e = inl (refl, cc)
 
-none_some : {A : Type 0} {g : ℕ → Refusal} → ◌≡◌ {A = Fault} none (some g) → A
-none_some e = absurd (let no : ◌≡◌ {A = ℕ} 0 1 = cc in omega arith)
+none_some : {A : Type 0} {g : ℕ → Refusal} → ◌≡◌ {A = Fault} None (Some g) → A
+none_some e = cc
 
 module _ (b : List ℕ) where
   -- WHERE A FILE STOPS, that is due
@@ -46,29 +47,29 @@ module _ (b : List ℕ) where
     abbrev DueBy : (ℕ → Refusal) → Type 0
     DueBy f = Due b (f at)
 
-    head_due : at ≡ 0 → (o : Option Task) → task_of (operation b) ≡ o → asked_of o (combiner b) (lists b) ≡ some g → DueBy g
-    head_due z none q e = let w : UnknownOperation ≡ g = cc in subst DueBy w (z, q)
-    head_due z (some k) q e =
-        let combined = unless (combiner_right k (combiner b)) UnknownCombiner none in
+    head_due : at ≡ 0 → (o : Option Task) → task_of (operation b) ≡ o → asked_of o (combiner b) (lists b) ≡ Some g → DueBy g
+    head_due z None q e = let w : UnknownOperation ≡ g = cc in subst DueBy w (z, q)
+    head_due z (Some k) q e =
+        let combined = unless (combiner_right k (combiner b)) UnknownCombiner None in
         ⊎_elim (λ x. subst DueBy x.1 (z, leb-false (lists b) 16 x.0))
         (λ e. ⊎_elim (λ x. subst DueBy x.1 (z, k, q, x.0))
-        (λ e. ⊎_elim (λ x. subst DueBy x.1 (z, k, q, x.0)) none_some (unless_some (combiner_right k (combiner b)) UnknownCombiner none g e))
+        (λ e. ⊎_elim (λ x. subst DueBy x.1 (z, k, q, x.0)) none_some (unless_some (combiner_right k (combiner b)) UnknownCombiner None g e))
         (unless_some (lists_right k (lists b)) NotTwoLists combined g e))
         (unless_some (leb (lists b) 16) TooManyLists (unless (lists_right k (lists b)) NotTwoLists combined) g e)
 
-  value_due : {l : Layout} {at : ℕ} {c : List ℕ} (w : Awaiting b l at c) (g : ℕ → Refusal) → fault b w (said_by l c) ≡ some g → Due b (g at)
+  value_due : {l : Layout} {at : ℕ} {c : List ℕ} (w : Awaiting b l at c) (g : ℕ → Refusal) → fault b w (said_by l c) ≡ Some g → Due b (g at)
   value_due the_head g e = head_due 0 g refl (task_of (operation b)) refl e
   value_due {at = at} {c = c} (a_list p) g e =
       let n = before b p + (said_by list_layout c).0 in
-      ⊎_elim (λ x. subst (λ (f : ℕ → Refusal). Due b (f at)) x.1 (c, p, leb-false n 2048 x.0)) none_some (unless_some (leb n 2048) TooManyRanges none g e)
+      ⊎_elim (λ x. subst (λ (f : ℕ → Refusal). Due b (f at)) x.1 (c, p, leb-false n 2048 x.0)) none_some (unless_some (leb n 2048) TooManyRanges None g e)
   value_due (a_range p) g e = none_some e
 
   halt_due : (r : Refusal) → Halt b r → Due b r
   halt_due r h = go h.awaiting (ends h.layout (fault b h.awaiting) h.at h.rest) h.stops
     where
       judge : {l : Layout} {at : ℕ} {c : List ℕ} (w : Awaiting b l at c) (f : Fault) → fault b w (said_by l c) ≡ f → (m : ℕ) (d : List ℕ) → judged f at (got (said_by l c) m d) ≡ stop r → Due b r
-      judge w none q m d e = absurd (let no : ◌≡◌ {A = ℕ} 0 1 = cc in omega arith)
-      judge {at = at} w (some g) q m d e = let z : g at ≡ r = cc in subst (Due b) z (value_due w g q)
+      judge w None q m d e = cc
+      judge {at = at} w (Some g) q m d e = let z : g at ≡ r = cc in subst (Due b) z (value_due w g q)
 
       go : {l : Layout} {at : ℕ} {c : List ℕ} (w : Awaiting b l at c) → Ends l (fault b w) at c → one l (fault b w) at c ≡ stop r → Due b r
       go {l} {at} {c} w (unmarked u e) s = let z : WrongMark at ≡ r = cc in subst (Due b) z (l, c, w, u.0, u.1)
@@ -81,7 +82,7 @@ module _ (b : List ℕ) where
     where
       go : (x : Parsed File) → read_file 0 b ≡ x → finish x ≡ refused r → Due b r
       go (stop s) q e = let z : s ≡ r = cc in halt_due r (halts b r y (q ∙ ap {B = Parsed File} stop z))
-      go (got (h, ls) at []) q e = absurd (let no : ◌≡◌ {A = ℕ} 0 1 = cc in omega arith)
+      go (got (h, ls) at []) q e = cc
       go (got (h, ls) at (x ∷ c)) q e =
           let z : LeftOver at ≡ r = cc in
           let f = file_format.only 0 b (h, ls) at (x ∷ c) y q in
@@ -125,29 +126,29 @@ module _ (b : List ℕ) where
   head_met at z o e q l f = subst (λ (k : ℕ). Met (q k)) (sym z) (value_met the_head (q 0) l (subst (λ o. Early (asked_of o (combiner b) (lists b)) 0 (q 0)) (sym e) f))
 
   many_lists : 16 < lists b → (o : Option Task) → Early (asked_of o (combiner b) (lists b)) 0 (TooManyLists 0)
-  many_lists l none = (UnknownOperation, refl, inr (omega arith))
-  many_lists l (some k) = unless_here (leb (lists b) 16) TooManyLists _ 0 (lt-leb (lists b) 16 l)
+  many_lists l None = (UnknownOperation, refl, inr (omega arith))
+  many_lists l (Some k) = unless_here (leb (lists b) 16) TooManyLists _ 0 (lt-leb (lists b) 16 l)
 
   met : (q : Refusal) → Due b q → Met q
   met TooLong d = (TooLong, records_long b d, inl refl)
   met (WrongMark at) (l, c, w, m, n) = record_met w (WrongMark at) (omega arith) (λ u. inl refl) (λ s u. absurd (u (m, n))) (λ s u. absurd (u (m, n)))
   met (CutShort at) (l, c, w, h) = record_met w (CutShort at) (omega arith) (λ u. inr (omega arith)) (λ s u. inl refl) (λ s u. absurd (s h))
-  met (UnknownOperation at) (z, e) = head_met at z none e UnknownOperation (omega arith) (UnknownOperation, refl, inl refl)
+  met (UnknownOperation at) (z, e) = head_met at z None e UnknownOperation (omega arith) (UnknownOperation, refl, inl refl)
   met (TooManyLists at) (z, l) = head_met at z (task_of (operation b)) refl TooManyLists (omega arith) (many_lists l (task_of (operation b)))
-  met (NotTwoLists at) (z, k, e, f) = head_met at z (some k) e NotTwoLists (omega arith) (unless_early (leb (lists b) 16) TooManyLists _ 0 (NotTwoLists 0) (omega arith) (unless_here (lists_right k (lists b)) NotTwoLists _ 0 f))
+  met (NotTwoLists at) (z, k, e, f) = head_met at z (Some k) e NotTwoLists (omega arith) (unless_early (leb (lists b) 16) TooManyLists _ 0 (NotTwoLists 0) (omega arith) (unless_here (lists_right k (lists b)) NotTwoLists _ 0 f))
   met (UnknownCombiner at) (z, k, e, f) =
       let q = UnknownCombiner 0 in
-      head_met at z (some k) e UnknownCombiner (omega arith)
-      (unless_early (leb (lists b) 16) TooManyLists _ 0 q (omega arith) (unless_early (lists_right k (lists b)) NotTwoLists _ 0 q (omega arith) (unless_here (combiner_right k (combiner b)) UnknownCombiner none 0 f)))
+      head_met at z (Some k) e UnknownCombiner (omega arith)
+      (unless_early (leb (lists b) 16) TooManyLists _ 0 q (omega arith) (unless_early (lists_right k (lists b)) NotTwoLists _ 0 q (omega arith) (unless_here (combiner_right k (combiner b)) UnknownCombiner None 0 f)))
   met (TooManyRanges at) (c, g, l) =
       let n = before b g + (said_by list_layout c).0 in
-      value_met (a_list g) (TooManyRanges at) (omega arith) (unless_here (leb n 2048) TooManyRanges none at (lt-leb n 2048 l))
+      value_met (a_list g) (TooManyRanges at) (omega arith) (unless_here (leb n 2048) TooManyRanges None at (lt-leb n 2048 l))
   met (LeftOver at) (h, ls, c, s, w, l) =
       finished (LeftOver at) (LeftOver at) (omega arith) (inl refl)
       (ap finish ((λ i. read_file 0 (w.same i)) ∙ (file_format.reads (h, ls) s).whole 0 c ∙ ap (λ (m : ℕ). got (h, ls) m c) (sym w.place)) ∙ left c l)
     where
       left : (c : List ℕ) → 0 < length c → finish (got (h, ls) at c) ≡ refused (LeftOver at)
-      left [] l = absurd (let no : ⊥ = omega arith in no)
+      left [] l = absurd (omega arith)
       left (x ∷ c) l = refl
 
   module _ (y : Bytes b) where

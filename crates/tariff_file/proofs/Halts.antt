@@ -3,7 +3,7 @@ use Prim.Native.Nat.{ℕ, zero, suc, ◌+◌}
 use mathlib.Core.Path.{◌≡◌, refl, sym, ap, subst, ◌∙◌}
 use mathlib.Core.Logic.{⊎_elim}
 use mathlib.Core.Bool.{true}
-use mathlib.Core.Option.{none}
+use Rattle.std.specs.declared.option.Option.TheVariants.{None}
 use mathlib.Core.List.{List, [], ◌∷◌, ◌++◌, map}
 use native.Mathlib.Omega.{arith}
 use lib.Dec.{leb}
@@ -54,7 +54,7 @@ module _ (b : List ℕ) where
   abbrev pub fault : {l : Layout} {at : ℕ} {c : List ℕ} → Awaiting b l at c → Held l → Fault
   fault the_head = head_fault
   fault (a_list g) = list_fault (before g)
-  fault (a_range g) = λ v. none
+  fault (a_range g) = λ v. None
 
   -- WHERE AN AWAITED RECORD STOPS, the file does
   list_comes : {at : ℕ} {c : List ℕ} (g : AtList b at c) (r : Refusal) → read_list (before g) at c ≡ stop r → read_file 0 b ≡ stop r
@@ -79,7 +79,7 @@ module _ (b : List ℕ) where
       let L = single list_layout (list_fault m) (list_held n) in
       let few : leb (m + n) 2048 ≡ true = le-leb (m + n) 2048 g.few_ranges in
       list_comes g.lists r
-      (then_past (one_format list_layout (list_fault m) (omega arith)) (λ v. read_ranges v.0) (list_held n) ((omega (arith, g.few_ranges), tt), none_unless (leb (m + n) 2048) TooManyRanges none few refl) (whole_first L rs g.whole)
+      (then_past (one_format list_layout (list_fault m) (omega arith)) (λ v. read_ranges v.0) (list_held n) ((omega (arith, g.few_ranges), tt), none_unless (leb (m + n) 2048) TooManyRanges None few refl) (whole_first L rs g.whole)
       ∙ many_past {S = Unit {0}} (λ s. read_range) (λ s x. s) range_single (λ s. Range) (λ s. range_format) n tt g.done (held_ranges g.done g.all_held) g.fewer
       (subst (λ (ss : List (List ℕ)). Whole ss (g.place + length (flat L)) (flat rs ++ c) at c) (sym (flat_singles (λ x. record_bytes range_layout (range_held x)) g.done)) (whole_next L rs g.whole)) r e)
 
@@ -115,13 +115,13 @@ module _ (b : List ℕ) where
         rest = c;
         lists = g;
         said = n;
-        few_ranges = leb-true k 2048 (unless_none (leb k 2048) TooManyRanges none t.ok.1).0;
+        few_ranges = leb-true k 2048 (unless_none (leb k 2048) TooManyRanges None t.ok.1).0;
         done = m.done;
         fewer = m.fewer;
         all_held = ranges_held m.done m.ok;
         whole = whole_both t.whole (subst (λ (rs : List (List ℕ)). Whole rs t.at t.rest m.at m.rest) (flat_singles (λ x. record_bytes range_layout (range_held x)) m.done) m.whole);
       }))
-      (last_stops held_range (one range_layout (λ v. none) m.at m.rest) r m.stops))
+      (last_stops held_range (one range_layout (λ v. None) m.at m.rest) r m.stops))
       (then_stops (one_format list_layout (list_fault (before g)) (omega arith)) (λ v. read_ranges v.0) at c r y e)
 
   pub halts : (r : Refusal) → Bytes b → read_file 0 b ≡ stop r → Halt r
@@ -141,7 +141,7 @@ module _ (b : List ℕ) where
       (record {
         head = h;
         said = said;
-        sound = head_sound h said (subst (λ k. head_fault (head_held h k) ≡ none) long t.ok.1) (omega (arith, none_total n)) (none_held n);
+        sound = head_sound h said (subst (λ k. head_fault (head_held h k) ≡ None) long t.ok.1) (omega (arith, none_total n)) (none_held n);
         done = m.done;
         fewer = omega (arith, m.fewer, long);
         few_ranges = omega (arith, few.0);

@@ -47,7 +47,7 @@ run_more (suc n) m k =
 
 run_at : (f : Typed ℤ ℤ → ℤ) → ((k : ℕ) → f (point k) ≡ pos k) → (n k i : ℕ) (d : ℤ) → i < n → get_or (map f (run k n)) i d ≡ pos (k + i)
 unfolding run
-run_at f e zero k i d h = absurd (let no : ⊥ = omega arith in no)
+run_at f e zero k i d h = absurd (omega arith)
 run_at f e (suc n) k zero d h = let z : k ≡ k + 0 = omega arith in e k ∙ ap pos z
 run_at f e (suc n) k (suc i) d h = let z : suc k + i ≡ k + suc i = omega arith in run_at f e n (suc k) i d (omega arith) ∙ ap pos z
 

@@ -76,21 +76,21 @@ module _ (n : ℕ) (some : 0 < n) where
       go false e = omega (arith, even n some, ltb-false x (half n) e)
 
 -- a signed field has a byte
-abbrev pub Some : Field → Type 0
-Some (unsigned n) = Unit {0}
-Some (signed n) = 0 < n
+abbrev pub Sized : Field → Type 0
+Sized (unsigned n) = Unit {0}
+Sized (signed n) = 0 < n
 
 pub field_long : (f : Field) (x : Value f) → length (field_bytes f x) ≡ size f
 unfolding field_bytes
 field_long (unsigned n) x = digits_long n x
 field_long (signed n) z = digits_long n (bits n z)
 
-pub field_back : (f : Field) → Some f → (x : Value f) → Holds f x → field_value f (field_bytes f x) ≡ x
+pub field_back : (f : Field) → Sized f → (x : Value f) → Holds f x → field_value f (field_bytes f x) ≡ x
 unfolding field_bytes field_value
 field_back (unsigned n) s x h = number_digits n x h
 field_back (signed n) s z h = rw (number_digits n (bits n z) (bits_lt n s z h)) (integer_bits n s z h)
 
-pub field_exact : (f : Field) → Some f → (b : List ℕ) → Bytes b → length b ≡ size f → (field_bytes f (field_value f b) ≡ b) × Holds f (field_value f b)
+pub field_exact : (f : Field) → Sized f → (b : List ℕ) → Bytes b → length b ≡ size f → (field_bytes f (field_value f b) ≡ b) × Holds f (field_value f b)
 unfolding field_bytes field_value
 field_exact (unsigned n) s b y e = (rw (← e) (digits_number b y), rw (← e) (number_lt b y))
 field_exact (signed n) s b y e =
@@ -98,7 +98,7 @@ field_exact (signed n) s b y e =
     let back = bits_integer n s (number b) l in
     (rw back.0 (rw e at (digits_number b y)), back.1)
 
-pub field_are_bytes : (f : Field) → Some f → (x : Value f) → Holds f x → Bytes (field_bytes f x)
+pub field_are_bytes : (f : Field) → Sized f → (x : Value f) → Holds f x → Bytes (field_bytes f x)
 unfolding field_bytes
 field_are_bytes (unsigned n) s x h = digits_bytes n x h
 field_are_bytes (signed n) s z h = digits_bytes n (bits n z) (bits_lt n s z h)

@@ -10,12 +10,11 @@ use lib.Signed.{mag}
 use lib.ListN.{length, get_or, take, length-map}
 use Rattle.rules.specs.Piece.{AllWellFormed}
 use Rattle.rules.specs.Lists.{instants, key64, keys, tracks}
-use Rattle.rules.specs.Answer.{judge_lists}
+use Rattle.std.specs.declared.result.Result.TheVariants.{Ok, Err}
+use Rattle.rules.specs.Answer.{Judgement, judge_lists}
 use Rattle.rules.specs.Refusals.{IsBackward, IsOverlap}
-use Rattle.rules.specs.declared.Answer.{Answer}
-use Rattle.rules.specs.declared.Answer.TheVariants.{Backward, Overlap}
-use Rattle.rules.specs.declared.Judgement.{Judgement}
-use Rattle.rules.specs.declared.Judgement.TheVariants.{Sound as SoundLists, Refused}
+use Rattle.rules.specs.declared.Refusal.{Refusal as CallRefusal}
+use Rattle.rules.specs.declared.Refusal.TheVariants.{Backward, Overlap}
 use Rattle.rules.proofs.Faults.{Names, backward, overlap, names_fault, Fault, Finds, sound, refused as found, fault_only, finds_lists, all_clear, all_formed, tells_both, tells_true, tells_le}
 use Rattle.many_way_rules.specs.Sheet.{Tariff, flat, lend}
 use Rattle.tariff_file.specs.Layout.{Bytes, half}
@@ -33,7 +32,7 @@ Ordered ls = AllWellFormed instants.points (tracks instants (lend ls))
 abbrev judgement : List (Tariff ℤ) → Judgement
 judgement ls = judge_lists (tracks instants (lend ls))
 
-pub ordered_sound : (ls : List (Tariff ℤ)) → Ordered ls → judgement ls ≡ SoundLists
+pub ordered_sound : (ls : List (Tariff ℤ)) → Ordered ls → judgement ls ≡ Ok tt
 ordered_sound ls = let c = lend ls in all_clear (keys instants c.starts) (keys instants c.ends) instants.points 0 c.counts
 
 -- an instant is a point
@@ -55,7 +54,7 @@ pub flat_held : (ls : List (Tariff ℤ)) → AllLists ls → AllRanges (flat ls)
 flat_held [] h = tt
 flat_held (l ∷ ls) h = both_held l (flat ls) h.0 (flat_held ls h.1)
 
-sound_ordered : (ls : List (Tariff ℤ)) → AllLists ls → judgement ls ≡ SoundLists → Ordered ls
+sound_ordered : (ls : List (Tariff ℤ)) → AllLists ls → judgement ls ≡ Ok tt → Ordered ls
 sound_ordered ls h e =
     let c = lend ls in
     let f = flat ls in
@@ -77,8 +76,8 @@ unfolding read
 read_refused b r = (go (records_of b), ap checked)
   where
     judged : (j : Judgement) (h : Head) (ls : List (Tariff ℤ)) → formed j h ls ≡ refused r → accepted h ls ≡ refused r
-    judged SoundLists h ls e = e
-    judged (Refused a) h ls e = absurd (let no : ◌≡◌ {A = ℕ} 0 1 = cc in omega arith)
+    judged (Ok u) h ls e = e
+    judged (Err a) h ls e = cc
 
     go : (x : Reading) → checked x ≡ refused r → x ≡ refused r
     go (refused q) e = e
@@ -99,15 +98,15 @@ read_past b y x none e = go (records_of b) refl e
 -- whatever is accepted was written of what it gives
 pub accepted_written : (b : List ℕ) (h : Head) (ls : List (Tariff ℤ)) → Bytes b → read b ≡ accepted h ls → (b ≡ written h ls) × Sound h ls × Ordered ls
 accepted_written b h ls y e =
-    let (g, ms, w, s, q) = read_past b y (accepted h ls) (λ r n. absurd (let no : ◌≡◌ {A = ℕ} 0 1 = cc in omega arith)) e in
+    let (g, ms, w, s, q) = read_past b y (accepted h ls) (λ r n. cc) e in
     go g ms (judgement ms) refl w s q
   where
     go : (g : Head) (ms : List (Tariff ℤ)) (j : Judgement) → judgement ms ≡ j → b ≡ written g ms → Sound g ms → formed j g ms ≡ accepted h ls → (b ≡ written h ls) × Sound h ls × Ordered ls
-    go g ms SoundLists p w s q =
+    go g ms (Ok u) p w s q =
         let eh : g ≡ h = cc in
         let el : ms ≡ ls = cc in
         (w ∙ (λ i. written (eh i) (el i)), subst₂ Sound eh el s, subst Ordered el (sound_ordered ms s.all_held p))
-    go g ms (Refused a) p w s q = absurd (let no : ◌≡◌ {A = ℕ} 0 1 = cc in omega arith)
+    go g ms (Err a) p w s q = cc
 
 -- a file is accepted exactly when it is the file of some head and lists, and no two files say the same
 pub accepted_exactly : (b : List ℕ) → Bytes b → ((h : Head) × (ls : List (Tariff ℤ)) × (read b ≡ accepted h ls)) ↔ ((h : Head) × (ls : List (Tariff ℤ)) × (b ≡ written h ls) × Sound h ls × Ordered ls)
@@ -137,8 +136,8 @@ too_long b h = (read_refused b TooLong).1 (records_long b h)
 
 -- 5 and 6: a names the first faulty range of the lists, by its flat index
 module _ (ls : List (Tariff ℤ)) where
-  abbrev pub FirstFaulty : Answer → Type 0
-  FirstFaulty = Fault (IsBackward instants (lend ls)) (IsOverlap instants (lend ls)) 0 (length (lend ls).starts)
+  abbrev pub FirstFaulty : CallRefusal → Type 0
+  FirstFaulty a = Fault (IsBackward instants (lend ls)) (IsOverlap instants (lend ls)) 0 (length (lend ls).starts) (Err a)
 
   abbrev Found : Judgement → Type 0
   Found = Finds (IsBackward instants (lend ls)) (IsOverlap instants (lend ls)) 0 (length (lend ls).starts)
@@ -149,25 +148,25 @@ module _ (ls : List (Tariff ℤ)) where
       finds_lists (keys instants c.starts) (keys instants c.ends) (IsOverlap instants c) 0 c.counts (length c.starts) (omega (arith, total_flat ls, length-map (flat ls) (λ x. x.start)))
       (λ j h m. rw (sub-zero j) (tells_both (tells_true _) (tells_le _ _)))
 
-  module _ (h : Head) (a : Answer) where
+  module _ (h : Head) (a : CallRefusal) where
     named : (j : Judgement) → Found j → formed j h ls ≡ ill_formed a → FirstFaulty a
-    named SoundLists (sound c) q = absurd (let no : ◌≡◌ {A = ℕ} 0 1 = cc in omega arith)
-    named (Refused d) (found f) q = let e : d ≡ a = cc in subst FirstFaulty e f
+    named (Ok u) (sound c) q = cc
+    named (Err d) (found f) q = let e : d ≡ a = cc in subst FirstFaulty e f
 
     naming : (j : Judgement) → Found j → FirstFaulty a → formed j h ls ≡ ill_formed a
-    naming SoundLists (sound c) g = absurd (c g.place g.from g.below (names_fault g.names))
-    naming (Refused d) (found f) g = ap ill_formed (fault_only f g)
+    naming (Ok u) (sound c) g = absurd (c g.place g.from g.below (names_fault g.names))
+    naming (Err d) (found f) g = let same : Err d ≡ Err a = fault_only f g in let e : d ≡ a = cc in ap ill_formed e
 
-pub ill_formed_exactly : (b : List ℕ) → Bytes b → (a : Answer) → (read b ≡ ill_formed a) ↔ ((h : Head) × (ls : List (Tariff ℤ)) × (b ≡ written h ls) × Sound h ls × FirstFaulty ls a)
+pub ill_formed_exactly : (b : List ℕ) → Bytes b → (a : CallRefusal) → (read b ≡ ill_formed a) ↔ ((h : Head) × (ls : List (Tariff ℤ)) × (b ≡ written h ls) × Sound h ls × FirstFaulty ls a)
 ill_formed_exactly b y a = (
-  λ e. let (h, ls, w, s, q) = read_past b y (ill_formed a) (λ r n. absurd (let no : ◌≡◌ {A = ℕ} 0 1 = cc in omega arith)) e in (h, ls, w, s, named ls h a (judgement ls) (finds ls) q),
+  λ e. let (h, ls, w, s, q) = read_past b y (ill_formed a) (λ r n. cc) e in (h, ls, w, s, named ls h a (judgement ls) (finds ls) q),
   λ (h, ls, w, s, f). ap read w ∙ read_judged h ls s ∙ naming ls h a (judgement ls) (finds ls) f,
 )
 
 -- and so no other code of the library than 5 or 6
-pub five_or_six : (b : List ℕ) → Bytes b → (a : Answer) → read b ≡ ill_formed a → (i : ℕ) × ((a ≡ Backward i) ⊎ (a ≡ Overlap i))
+pub five_or_six : (b : List ℕ) → Bytes b → (a : CallRefusal) → read b ≡ ill_formed a → (i : ℕ) × ((a ≡ Backward i) ⊎ (a ≡ Overlap i))
 five_or_six b y a e = let f = ((ill_formed_exactly b y a).0 e).4 in (f.place, go f.names)
   where
-    go : {B O : ℕ → Type 0} {c : Answer} {i : ℕ} → Names B O c i → (c ≡ Backward i) ⊎ (c ≡ Overlap i)
+    go : {B O : ℕ → Type 0} {c : CallRefusal} {i : ℕ} → Names B O (Err c) i → (c ≡ Backward i) ⊎ (c ≡ Overlap i)
     go (backward b) = inl refl
     go (overlap n o) = inr refl

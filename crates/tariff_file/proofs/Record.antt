@@ -2,7 +2,7 @@
 use Prim.Native.Nat.{ℕ, zero, suc, ◌+◌, ◌≤◌, ◌<◌}
 use mathlib.Core.Path.{◌≡◌, refl, sym, ap, subst, ◌∙◌}
 use mathlib.Core.Bool.{Bool, true, false, cond, ◌&&◌}
-use mathlib.Core.Option.{none, some}
+use Rattle.std.specs.declared.option.Option.TheVariants.{None, Some}
 use mathlib.Core.List.{List, [], ◌∷◌, ◌++◌, append_assoc, append-nil}
 use native.Mathlib.Omega.{arith}
 use lib.Dec.{leb, eqb}
@@ -13,14 +13,14 @@ use Rattle.many_way_rules.specs.Sheet.{flat}
 use Rattle.tariff_file.specs.Layout.{Bytes, Field, size, sizes, Values, AllHold, field_bytes, field_value, values_bytes, values, Layout, Held, record_bytes}
 use Rattle.tariff_file.specs.Reader.{stop, got, Fault, judged, one, record_at}
 use Rattle.tariff_file.specs.declared.Refusal.TheVariants.{CutShort, WrongMark}
-use Rattle.tariff_file.proofs.Number.{Some, field_long, field_back, field_exact, field_are_bytes}
+use Rattle.tariff_file.proofs.Number.{Sized, field_long, field_back, field_exact, field_are_bytes}
 use Rattle.tariff_file.proofs.Sequence.{Reads, Split, Only, Format, record_first, bytes_after, bytes_both}
 
-abbrev pub Somes : List Field → Type 0
-Somes [] = Unit {0}
-Somes (f ∷ fs) = Some f × Somes fs
+abbrev pub AllSized : List Field → Type 0
+AllSized [] = Unit {0}
+AllSized (f ∷ fs) = Sized f × AllSized fs
 
-bytes_take : (n : ℕ) (b : List ℕ) → Bytes b → Bytes (take n b)
+pub bytes_take : (n : ℕ) (b : List ℕ) → Bytes b → Bytes (take n b)
 bytes_take zero b y = tt
 bytes_take (suc n) [] y = tt
 bytes_take (suc n) (x ∷ b) y = (y.0, bytes_take n b y.1)
@@ -33,7 +33,7 @@ unfolding values_bytes
 values_long [] v = refl
 values_long (f ∷ fs) v = length-append (field_bytes f v.0) (values_bytes fs v.1) ∙ (λ i. field_long f v.0 i + values_long fs v.1 i)
 
-values_back : (fs : List Field) → Somes fs → (v : Values fs) → AllHold fs v → (more : List ℕ) → values fs (values_bytes fs v ++ more) ≡ v
+values_back : (fs : List Field) → AllSized fs → (v : Values fs) → AllHold fs v → (more : List ℕ) → values fs (values_bytes fs v ++ more) ≡ v
 unfolding values_bytes values
 values_back [] s v h more = refl
 values_back (f ∷ fs) s v h more =
@@ -46,7 +46,7 @@ values_back (f ∷ fs) s v h more =
     let rest = ap (values fs) d ∙ values_back fs s.1 v.1 h.1 more in
     (λ i. (first i, rest i))
 
-values_exact : (fs : List Field) → Somes fs → (b : List ℕ) → Bytes b → sizes fs ≤ length b → (values_bytes fs (values fs b) ≡ take (sizes fs) b) × AllHold fs (values fs b)
+values_exact : (fs : List Field) → AllSized fs → (b : List ℕ) → Bytes b → sizes fs ≤ length b → (values_bytes fs (values fs b) ≡ take (sizes fs) b) × AllHold fs (values fs b)
 unfolding values_bytes values
 values_exact [] s b y h = (refl, tt)
 values_exact (f ∷ fs) s b y h =
@@ -54,22 +54,22 @@ values_exact (f ∷ fs) s b y h =
     let rest = values_exact fs s.1 (drop (size f) b) (bytes_drop (size f) b y) (omega (arith, length-drop (size f) b)) in
     ((λ i. first.0 i ++ rest.0 i) ∙ sym (take-add (size f) (sizes fs) b), (first.1, rest.1))
 
-values_are_bytes : (fs : List Field) → Somes fs → (v : Values fs) → AllHold fs v → Bytes (values_bytes fs v)
+values_are_bytes : (fs : List Field) → AllSized fs → (v : Values fs) → AllHold fs v → Bytes (values_bytes fs v)
 unfolding values_bytes
 values_are_bytes [] s v h = tt
 values_are_bytes (f ∷ fs) s v h = bytes_both (field_bytes f v.0) (values_bytes fs v.1) (field_are_bytes f s.0 v.0 h.0) (values_are_bytes fs s.1 v.1 h.1)
 
-pub record_is_bytes : (l : Layout) → Somes l.fields → l.first < 256 → l.second < 256 → (v : Held l) → AllHold l.fields v → Bytes (record_bytes l v)
+pub record_is_bytes : (l : Layout) → AllSized l.fields → l.first < 256 → l.second < 256 → (v : Held l) → AllHold l.fields v → Bytes (record_bytes l v)
 unfolding record_bytes
 record_is_bytes l s a b v h = (a, (b, values_are_bytes l.fields s v h))
 
 module _ (l : Layout) (asked : Held l → Fault) where
-  one_fine : (at : ℕ) (b : List ℕ) (v : Held l) → sizes l.fields ≤ length b → values l.fields b ≡ v → asked v ≡ none →
+  one_fine : (at : ℕ) (b : List ℕ) (v : Held l) → sizes l.fields ≤ length b → values l.fields b ≡ v → asked v ≡ None →
       one l asked at (l.first ∷ l.second ∷ b) ≡ got v (at + (2 + sizes l.fields)) (drop (sizes l.fields) b)
   unfolding one
   one_fine at b v h e q =
       let s = sizes l.fields in
-      let g : asked (values l.fields b) ≡ none = ap asked e ∙ q in
+      let g : asked (values l.fields b) ≡ None = ap asked e ∙ q in
       (λ i. cond (eq-eqb l.first l.first refl i && eq-eqb l.second l.second refl i)
       (cond (le-leb s (length b) h i) (judged (g i) at (got (e i) (at + (2 + s)) (drop s b))) (stop (CutShort at)))
       (stop (WrongMark at)))
@@ -84,12 +84,12 @@ module _ (l : Layout) (asked : Held l → Fault) where
       (stop (WrongMark at)))
 
   abbrev pub Fine : Held l → Type 0
-  Fine v = AllHold l.fields v × (asked v ≡ none)
+  Fine v = AllHold l.fields v × (asked v ≡ None)
 
   abbrev pub single : Held l → List (List ℕ)
   single v = record_bytes l v ∷ []
 
-  module _ (sized : Somes l.fields) where
+  module _ (sized : AllSized l.fields) where
     one_reads : (v : Held l) → Fine v → Reads (one l asked) v (single v)
     unfolding record_bytes one
     one_reads v h = record { whole = whole; front = front }
@@ -120,14 +120,14 @@ module _ (l : Layout) (asked : Held l → Fault) where
 
     one_only : Only (one l asked) (λ v rs. (rs ≡ single v) × Fine v)
     unfolding one record_bytes
-    one_only at [] v past more y e = absurd (let no : ◌≡◌ {A = ℕ} 0 1 = cc in omega arith)
-    one_only at (a ∷ []) v past more y e = absurd (let no : ◌≡◌ {A = ℕ} 0 1 = cc in omega arith)
+    one_only at [] v past more y e = cc
+    one_only at (a ∷ []) v past more y e = cc
     one_only at (a ∷ c ∷ b) v past more y e = go (eqb a l.first) refl (eqb c l.second) refl (leb (sizes l.fields) (length b)) refl (asked (values l.fields b)) refl e
       where
         go : (p : Bool) → eqb a l.first ≡ p → (q : Bool) → eqb c l.second ≡ q → (t : Bool) → leb (sizes l.fields) (length b) ≡ t → (f : Fault) → asked (values l.fields b) ≡ f
             → cond (p && q) (cond t (judged f at (got (values l.fields b) (at + (2 + sizes l.fields)) (drop (sizes l.fields) b))) (stop (CutShort at))) (stop (WrongMark at)) ≡ got v past more
             → Split (λ v rs. (rs ≡ single v) × Fine v) at (a ∷ c ∷ b) v past more
-        go true ep true eq true et none ef e =
+        go true ep true eq true et None ef e =
             let s = sizes l.fields in
             let w = values l.fields b in
             let x = values_exact l.fields sized b y.1.1 (leb-true s (length b) et) in
@@ -143,10 +143,10 @@ module _ (l : Layout) (asked : Held l → Fault) where
               whole = λ i. eqb-true a l.first ep i ∷ eqb-true c l.second eq i ∷ split i;
               place = omega (arith, el, values_long l.fields v, ap length (append-nil body));
             }
-        go true ep true eq true et (some r) ef e = absurd (let no : ◌≡◌ {A = ℕ} 0 1 = cc in omega arith)
-        go true ep true eq false et f ef e = absurd (let no : ◌≡◌ {A = ℕ} 0 1 = cc in omega arith)
-        go true ep false eq t et f ef e = absurd (let no : ◌≡◌ {A = ℕ} 0 1 = cc in omega arith)
-        go false ep q eq t et f ef e = absurd (let no : ◌≡◌ {A = ℕ} 0 1 = cc in omega arith)
+        go true ep true eq true et (Some r) ef e = cc
+        go true ep true eq false et f ef e = cc
+        go true ep false eq t et f ef e = cc
+        go false ep q eq t et f ef e = cc
 
     pub one_format : Format (one l asked) single Fine
     one_format = record { reads = one_reads; only = one_only }

@@ -69,7 +69,7 @@ Only {A} p Q = (at : ℕ) (b : List ℕ) (a : A) (past : ℕ) (more : List ℕ) 
 
 module _ {A : Type 0} where
   pub reads_got : (a : A) → Reads (got a) a []
-  reads_got a = record { whole = λ at more. ap (λ (k : ℕ). got a k more) (sym (add-zero at)); front = λ at n h. absurd (let no : ⊥ = omega arith in no) }
+  reads_got a = record { whole = λ at more. ap (λ (k : ℕ). got a k more) (sym (add-zero at)); front = λ at n h. absurd (omega arith) }
 
   pub only_got : (a : A) (Q : A → List (List ℕ) → Type 0) → Q a [] → Only (got a) Q
   only_got a Q q at b c past more y e =
@@ -116,7 +116,7 @@ module _ {A : Type 0} where
     only_then Q T hp hk at b c past more y e = go (p at b) refl e
       where
         go : (r : Parsed A) → p at b ≡ r → follow r k ≡ got c past more → Split T at b c past more
-        go (stop s) q e = absurd (let no : ◌≡◌ {A = ℕ} 0 1 = cc in omega arith)
+        go (stop s) q e = cc
         go (got a m x) q e =
             let g = hp at b a m x y q in
             let h = hk a g.records g.fits m x c past more (bytes_after (flat g.records) x (subst Bytes g.whole y)) e in

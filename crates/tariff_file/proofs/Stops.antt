@@ -77,7 +77,7 @@ module _ (rs ss : List (List ℕ)) {from : ℕ} {b : List ℕ} {at : ℕ} {c : L
 module _ {A : Type 0} where
   pub last_stops : {B : Type 0} (f : A → B) (x : Parsed A) (r : Refusal) → follow x (λ a. got (f a)) ≡ stop r → x ≡ stop r
   last_stops f (stop s) r e = let q : s ≡ r = cc in ap {B = Parsed A} stop q
-  last_stops f (got a at b) r e = absurd (let no : ◌≡◌ {A = ℕ} 0 1 = cc in omega arith)
+  last_stops f (got a at b) r e = cc
 
 module _ {A B : Type 0} {p : Reader A} {R : A → List (List ℕ)} {Ok : A → Type 0} (law : Format p R Ok) (k : A → Reader B) where
   pub then_past : (a : A) → Ok a → {from : ℕ} {b : List ℕ} {at : ℕ} {c : List ℕ} → Whole (R a) from b at c → (p then k) from b ≡ k a at c
@@ -114,7 +114,7 @@ module _ {A S : Type 0} (p : S → Reader A) (next : S → A → S) (R : A → L
 
   pub many_past : (n : ℕ) (s : S) (xs : List A) → AllOk p next R Ok s xs → length xs < n → {from : ℕ} {b : List ℕ} {at : ℕ} {c : List ℕ} → Whole (flat (map R xs)) from b at c →
       (r : Refusal) → p (known_after next s xs) at c ≡ stop r → many p next n s from b ≡ stop r
-  many_past zero s xs h l w r e = absurd (let no : ⊥ = omega arith in no)
+  many_past zero s xs h l w r e = absurd (omega arith)
   many_past (suc n) s [] h l {from} w r e =
       let z = w.place ∙ add-zero from in
       ap (λ x. follow x (turned n s)) ((λ i. p s (sym z i) (w.same i)) ∙ e)
@@ -134,7 +134,7 @@ module _ {A S : Type 0} (p : S → Reader A) (next : S → A → S) (R : A → L
     pub stops : p (known_after next s done) at rest ≡ stop r
 
   pub many_stops : (n : ℕ) (s : S) (from : ℕ) (b : List ℕ) (r : Refusal) → Bytes b → many p next n s from b ≡ stop r → Among n s from b r
-  many_stops zero s from b r y e = absurd (let no : ◌≡◌ {A = ℕ} 0 1 = cc in omega arith)
+  many_stops zero s from b r y e = cc
   many_stops (suc n) s from b r y e = go (λ t m c. many_stops n t m c r) (then_stops (law s) (turned n s) from b r y e)
     where
       go : ((t : S) (m : ℕ) (c : List ℕ) → Bytes c → many p next n t m c ≡ stop r → Among n t m c r) → (p s from b ≡ stop r) ⊎ Beyond (law s) (turned n s) from b r → Among (suc n) s from b r

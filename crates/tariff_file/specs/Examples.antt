@@ -2,7 +2,7 @@
 use Rattle.std.specs.Prelude.{ℕ, List, [], ◌∷◌, ◌++◌, ℤ, pos, negsuc, take, drop, set, replicate}
 use Rattle.many_way_rules.specs.Sheet.{Typed, Tariff}
 use Rattle.tariff_file.specs.File.{Head, Reading, refused, ill_formed, accepted}
-use Rattle.rules.specs.declared.Answer.TheVariants.{Backward}
+use Rattle.rules.specs.declared.Refusal.TheVariants.{Backward}
 use Rattle.tariff_file.specs.declared.Refusal.TheVariants.{TooLong, WrongMark, CutShort, LeftOver, UnknownOperation, TooManyLists, NotTwoLists, UnknownCombiner, TooManyRanges}
 
 abbrev pub example : List ℕ

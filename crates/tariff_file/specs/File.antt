@@ -1,12 +1,11 @@
 -- The tariff file: its three records, the table of operations, how a file is written and how it is read. Assumes nothing.
-use Rattle.std.specs.Prelude.{ℕ, zero, suc, ◌+◌, ◌≤◌, ◌≡◌, Bool, true, false, cond, List, [], ◌∷◌, map, ltb, leb, eqb, ℤ, length}
-use Rattle.std.proofs.Math.Option.{Option, none, some}
-use Rattle.std.proofs.Math.ListN.{get_elem?}
+use Rattle.std.specs.Prelude.{ℕ, zero, suc, ◌+◌, ◌≤◌, ◌≡◌, Bool, true, false, cond, List, [], ◌∷◌, map, ltb, leb, eqb, ℤ, length, slice_get}
+use Rattle.std.specs.declared.option.Option.{Option}
+use Rattle.std.specs.declared.option.Option.TheVariants.{None, Some}
+use Rattle.std.specs.declared.result.Result.TheVariants.{Ok, Err}
 use Rattle.rules.specs.Lists.{instants, tracks, total}
-use Rattle.rules.specs.Answer.{judge_lists}
-use Rattle.rules.specs.declared.Answer.{Answer}
-use Rattle.rules.specs.declared.Judgement.{Judgement}
-use Rattle.rules.specs.declared.Judgement.TheVariants.{Sound as SoundLists, Refused}
+use Rattle.rules.specs.Answer.{Judgement, judge_lists}
+use Rattle.rules.specs.declared.Refusal.{Refusal as CallRefusal}
 use Rattle.rules.specs.declared.Pairing.TheVariants.{Inner, Left, Full}
 use Rattle.many_way_rules.specs.Combiners.{known}
 use Rattle.many_way_rules.specs.Sheet.{Typed, Tariff, flat, lend}
@@ -36,8 +35,8 @@ abbrev pub operations : List Task
 operations = Pair Inner ∷ Pair Left ∷ Pair Full ∷ Merge Every ∷ Merge Any ∷ Choose Highest Any ∷ Choose Highest Odd ∷ []
 
 abbrev pub task_of : ℕ → Option Task
-task_of zero = none
-task_of (suc n) = get_elem? operations n
+task_of zero = None
+task_of (suc n) = slice_get operations n
 
 -- a two-way operation asks for two lists
 abbrev pub lists_right : Task → ℕ → Bool
@@ -88,23 +87,23 @@ written h ls = flat (records (h, ls))
 -- the first fault, where the test fails, or else the next
 abbrev pub unless : Bool → (ℕ → Refusal) → Fault → Fault
 unless true r next = next
-unless false r next = some r
+unless false r next = Some r
 
 -- 13, 1, 2, 7
 abbrev pub asked_of : Option Task → ℕ → ℕ → Fault
-asked_of none c n = some UnknownOperation
-asked_of (some k) c n = unless (leb n 16) TooManyLists (unless (lists_right k n) NotTwoLists (unless (combiner_right k c) UnknownCombiner none))
+asked_of None c n = Some UnknownOperation
+asked_of (Some k) c n = unless (leb n 16) TooManyLists (unless (lists_right k n) NotTwoLists (unless (combiner_right k c) UnknownCombiner None))
 
 abbrev pub head_fault : Held head_layout → Fault
 head_fault v = asked_of (task_of v.0) v.1.0 v.1.1.0
 
 -- 3 at the list whose count takes the total over
 abbrev pub list_fault : ℕ → Held list_layout → Fault
-list_fault before v = unless (leb (before + v.0) 2048) TooManyRanges none
+list_fault before v = unless (leb (before + v.0) 2048) TooManyRanges None
 
 unfoldable pub read_range : Reader (Typed ℤ ℤ)
 unfolding one
-read_range = one range_layout (λ v. none) then (λ v. got (held_range v))
+read_range = one range_layout (λ v. None) then (λ v. got (held_range v))
 
 unfoldable pub read_ranges : ℕ → Reader (Tariff ℤ)
 unfolding read_range
@@ -127,7 +126,7 @@ read_file = one head_layout head_fault then (λ v. read_lists v.1.1.0 0 then (λ
 -- a refusal of the file, or of its first faulty range, or the head and the lists, which are lent as the columns `lend` of them
 pub data Reading : Type 0 where
   refused : Refusal → Reading
-  ill_formed : Answer → Reading
+  ill_formed : CallRefusal → Reading
   accepted : Head → List (Tariff ℤ) → Reading
 
 -- 12 where bytes are left
@@ -143,8 +142,8 @@ records_of b = let r = finish (read_file 0 b) in cond (ltb 45126 (length b)) (re
 
 -- 5 and 6, as the form checker gives them
 abbrev pub formed : Judgement → Head → List (Tariff ℤ) → Reading
-formed SoundLists h ls = accepted h ls
-formed (Refused a) h ls = ill_formed a
+formed (Ok u) h ls = accepted h ls
+formed (Err a) h ls = ill_formed a
 
 abbrev pub checked : Reading → Reading
 checked (refused r) = refused r
@@ -190,7 +189,7 @@ AllLists (l ∷ ls) = AllRanges l × AllLists ls
 -- a head and lists that a file can hold
 pub record Sound (h : Head) (ls : List (Tariff ℤ)) : Type 0 where
   pub task : Task
-  pub operation_known : task_of h.operation ≡ some task
+  pub operation_known : task_of h.operation ≡ Some task
   pub few_lists : length ls ≤ 16
   pub right_lists : lists_right task (length ls) ≡ true
   pub right_combiner : combiner_right task h.combiner ≡ true

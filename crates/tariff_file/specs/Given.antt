@@ -1,6 +1,6 @@
 -- When each refusal of a file is due, said of its bytes and not of how they are read, and the order. Assumes nothing.
 use Rattle.std.specs.Prelude.{ℕ, ◌+◌, ◌≤◌, ◌<◌, ◌≡◌, ◌≢◌, false, List, [], ◌∷◌, ◌++◌, map, ℤ, length, take, drop}
-use Rattle.std.proofs.Math.Option.{none, some}
+use Rattle.std.specs.declared.option.Option.TheVariants.{None, Some}
 use Rattle.rules.specs.Lists.{total}
 use Rattle.many_way_rules.specs.Sheet.{Tariff, flat}
 use Rattle.tariff_file.specs.Layout.{Layout, Held, sizes, values, record_bytes}
@@ -61,10 +61,10 @@ module _ (b : List ℕ) where
   Due TooLong = 45126 < length b
   Due (WrongMark at) = (l : Layout) × (c : List ℕ) × Awaiting b l at c × (2 ≤ length c) × (take 2 c ≢ l.first ∷ l.second ∷ [])
   Due (CutShort at) = (l : Layout) × (c : List ℕ) × Awaiting b l at c × (length c < 2 + sizes l.fields)
-  Due (UnknownOperation at) = (at ≡ 0) × (task_of operation ≡ none)
+  Due (UnknownOperation at) = (at ≡ 0) × (task_of operation ≡ None)
   Due (TooManyLists at) = (at ≡ 0) × (16 < lists)
-  Due (NotTwoLists at) = (at ≡ 0) × (k : Task) × (task_of operation ≡ some k) × (lists_right k lists ≡ false)
-  Due (UnknownCombiner at) = (at ≡ 0) × (k : Task) × (task_of operation ≡ some k) × (combiner_right k combiner ≡ false)
+  Due (NotTwoLists at) = (at ≡ 0) × (k : Task) × (task_of operation ≡ Some k) × (lists_right k lists ≡ false)
+  Due (UnknownCombiner at) = (at ≡ 0) × (k : Task) × (task_of operation ≡ Some k) × (combiner_right k combiner ≡ false)
   Due (TooManyRanges at) = (c : List ℕ) × (g : AtList b at c) × (2048 < total (map length g.done) + (said_by list_layout c).0)
   Due (LeftOver at) = (h : Head) × (ls : List (Tariff ℤ)) × (c : List ℕ) × Sound h ls × Whole (records (h, ls)) 0 b at c × (0 < length c)
 

@@ -1,6 +1,7 @@
 -- Reading records in turn: mark and shortness, then what is asked of a record's values; a refusal gives the record's offset. Assumes nothing.
 use Rattle.std.specs.Prelude.{ℕ, zero, suc, ◌+◌, ◌-◌, cond, ◌&&◌, List, [], ◌∷◌, ltb, leb, eqb, length, drop}
-use Rattle.std.proofs.Math.Option.{Option, none, some}
+use Rattle.std.specs.declared.option.Option.{Option}
+use Rattle.std.specs.declared.option.Option.TheVariants.{None, Some}
 use Rattle.tariff_file.specs.Layout.{Layout, Held, sizes, values}
 use Rattle.tariff_file.specs.declared.Refusal.{Refusal}
 use Rattle.tariff_file.specs.declared.Refusal.TheVariants.{WrongMark, CutShort}
@@ -20,8 +21,8 @@ Fault = Option (ℕ → Refusal)
 
 module _ {A : Type 0} where
   abbrev pub judged : Fault → ℕ → Parsed A → Parsed A
-  judged none at next = next
-  judged (some r) at next = stop (r at)
+  judged None at next = next
+  judged (Some r) at next = stop (r at)
 
   module _ {B : Type 0} where
     abbrev pub follow : Parsed A → (A → Reader B) → Parsed B

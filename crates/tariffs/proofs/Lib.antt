@@ -1,3 +1,3 @@
--- The laws of a list that is judged range by range. Assumes nothing.
+-- The laws of a list of tariffs. Assumes nothing.
 pub mod Laws
 pub mod Alone

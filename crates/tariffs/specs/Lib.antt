@@ -1,4 +1,3 @@
--- A list of tariff structs as the rules see it, and what is kept while it is judged. Assumes nothing.
+-- A list of structs as the rules see it, and what C is told of it. Assumes nothing.
 pub mod Placed
-pub mod Looks
 pub mod Told

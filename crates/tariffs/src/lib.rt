@@ -1,76 +1,43 @@
-// A list of tariff structs judged range by range: what is kept from one range to the next.
+// One list lent as a slice of structs, judged before any join, and what is found as C has it.
 
 #![tactic(auto)]
 
-ghost use Rattle.std.specs.Prelude.{◌≡◌, ◌<◌};
-ghost use Rattle.form.specs.Shape.{piece};
-ghost use Rattle.tariffs.specs.Looks.{unlooked, looked, after};
-ghost use Rattle.tariffs.specs.Told.{answer_of, Told};
+ghost use Rattle.std.specs.Prelude.{◌≡◌};
+ghost use Rattle.std.specs.declared.option.Option.TheVariants.{None};
+ghost use Rattle.rules.specs.Answer.{judge_list};
+ghost use Rattle.form.specs.declared.Range.{Range};
+ghost use Rattle.tariffs.specs.Placed.{placed};
+ghost use Rattle.tariffs.specs.Told.{Told};
 
-use form::{Prior, Range, judge_range};
-use rules::{Answer, Judgement, code, number as number_of};
+use form::{Range, judge_range};
+use rules::{Refusal, code, number as number_of};
 
-// What is found up to a place of a list: the end of the range before, and the judgement.
-#[derive(Clone, Copy)]
-pub struct Look {
-    pub prior: Prior,
-    pub found: Judgement,
+// What has a range, as a tariff of a list that is typed: the range has its points by their keys.
+pub trait Ranged: Copy {
+    ghost range: { Self → Range };
+
+    fn range(self) -> Range
+        ensures { result ≡ range self };
 }
 
-pub fn begin() -> Look
-    ensures { result ≡ unlooked }
+// The first faulty range of the list, or that there is none.
+pub fn judge_tariffs<T: Ranged>(list: &[T]) -> Result<(), Refusal>
+    ensures { result ≡ judge_list None (placed T.range 0 list.now) }
 {
-    Look {
-        prior: Prior::Nothing,
-        found: Judgement::Sound,
+    let mut prior = None;
+    for i in 0..list.len() {
+        let range = list[i].range();
+        judge_range(prior, range, i)?;
+        prior = Some(range.end);
     }
+    Ok(())
 }
 
-// The range at a place is judged after those before it, all of them sound.
-pub fn look_at(look: Look, range: Range, place: usize) -> Look
-    ensures { result ≡ looked look (piece range place) }
-{
-    let prior = look.prior;
-    let found = judge_range(prior, range, place);
-    Look {
-        prior: Prior::End(range.end),
-        found,
-    }
-}
-
-// The place to look at after another: the next one, or the list's end once something is found.
-pub fn next_place(look: Look, place: usize, count: usize) -> usize
-    requires { place < count }
-    ensures { result ≡ after look.found place count }
-{
-    let found = look.found;
-    let Judgement::Sound = found else {
-        return count;
-    };
-    place + 1
-}
-
-pub fn found(look: Look) -> Judgement
-    ensures { result ≡ look.found }
-{
-    look.found
-}
-
-// A list without fault is done, with nothing written.
-fn answer_of(found: Judgement) -> Answer
-    ensures { result ≡ answer_of found }
-{
-    match found {
-        Judgement::Sound => Answer::Done(0),
-        Judgement::Refused(answer) => answer,
-    }
-}
-
-// What is found as a C function tells it: the code comes back, and the number is written.
-pub fn tell(found: Judgement, number: &mut u64) -> u8
+// What is found as a C function tells it: the code comes back, 0 where nothing is at fault, and the number is written.
+pub fn tell(found: Result<(), Refusal>, number: &mut u64) -> u8
     ensures { Told found result number.new }
 {
-    let answer = answer_of(found);
+    let answer = found.map(|_| 0);
     *number = number_of(answer) as u64;
     code(answer)
 }

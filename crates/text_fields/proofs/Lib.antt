@@ -1,6 +1,8 @@
--- What the proofs use: texts in a buffer, signed numbers that went through locals, a text written part by part, and the lines of a
--- table.
+-- What the proofs use: texts in a buffer, a writer, a text that grows step by step, lines and rows, and numbers by their signs and as
+-- the library prints them.
 pub mod Buffer
+pub mod Writing
+pub mod Steps
+pub mod Lines
 pub mod Signs
-pub mod Parts
-pub mod Tables
+pub mod Decimal

@@ -1,2 +1,2 @@
--- What the proofs of whole answers use: a text printed, or none of it.
+-- What the proofs of whole answers use: a text printed, or none of it; an answer's parts.
 pub mod Prints

@@ -1,105 +1,117 @@
-// Whole answers as text into a lent buffer, each measured first, then written; where one does not fit, nothing is written and 0 is answered.
+// Whole answers as text into a lent buffer, each measured first, then written; where one does not fit, nothing is written.
 
 #![tactic(auto)]
 
-ghost use Rattle.std.specs.Prelude.{◌≡◌, length};
-ghost use Rattle.rules.specs.Merged.{columns};
-ghost use Rattle.rules.specs.Paired.{columns as pair_columns};
-ghost use Rattle.answer_text.specs.Answers.{merged_text, paired_text, refusal_text};
-ghost use Rattle.answer_text.specs.Buffer.{Room, Put, leaves, print};
-ghost use Rattle.text_pairs.specs.Pairs.{Pairs};
-ghost use Rattle.text_rows.specs.Parts.{header_text, Rows};
+ghost use Rattle.std.specs.Prelude.{ℕ, ◌≤◌, ◌≡◌, ◌++◌, map};
+ghost use Rattle.std.proofs.Common.{lit≤};
+ghost use Rattle.rules.specs.Merged.{room};
+ghost use Rattle.rules.specs.Paired.{room as pair_room};
+ghost use Rattle.answer_text.specs.Lines.{line};
+ghost use Rattle.answer_text.specs.Answers.{row, row_at, merged_text, paired_text, refusal_text};
+ghost use Rattle.answer_text.specs.Buffer.{tries, attempt};
+ghost use Rattle.text_fields.specs.Fields.{spelled};
+ghost use Rattle.text_fields.specs.Tables.{rows_text};
+ghost use Rattle.text_pairs.specs.Pairs.{columns_of as pair_columns_of};
+ghost use Rattle.text_rows.specs.Parts.{header_of, columns_of};
 
-use text_fields::{digits_width, put_count, put_word};
+use text_fields::table::{Table, after_rows, put_rows};
+use text_fields::{Field, Writer, after_line};
+use text_pairs::Pairs;
 
-pub mod rows;
-
-// How many bytes the header takes.
-fn header_width(operation: u8, combiner: u8, lists: usize, pieces: usize) -> usize
-    ensures { result ≡ length (header_text operation combiner lists pieces) }
-{
-    digits_width(operation as u64)
-        + digits_width(combiner as u64)
-        + digits_width(lists as u64)
-        + digits_width(pieces as u64)
-        + 9
+// What the first line of an answer tells.
+#[derive(Clone, Copy)]
+pub struct Header {
+    pub operation: u8,
+    pub combiner: u8,
+    pub lists: usize,
+    pub pieces: usize,
 }
 
-// Writes the header at the front.
-fn put_header(operation: u8, combiner: u8, lists: usize, pieces: usize, out: &mut [u8]) -> usize
-    requires { Room 0 (header_text operation combiner lists pieces) out.old }
-    ensures { Put 0 (header_text operation combiner lists pieces) out.old out.new result }
-{
-    let first = put_word(b"join ", 0, out);
-    let second = put_count(operation as u64, b' ', first, out);
-    let third = put_count(combiner as u64, b' ', second, out);
-    let fourth = put_count(lists as u64, b' ', third, out);
-    put_count(pieces as u64, b'\n', fourth, out)
+impl Header {
+    fn fields(self) -> [Field; 5]
+        ensures { map spelled result ≡ header_of self }
+    {
+        [
+            Field::Join,
+            Field::Count(u64::from(self.operation)),
+            Field::Count(u64::from(self.combiner)),
+            Field::Count(self.lists as u64),
+            Field::Count(self.pieces as u64),
+        ]
+    }
 }
 
-// Prints a many-way answer whose pieces are the first n of the columns.
-pub fn print_merged(
-    operation: u8,
-    combiner: u8,
-    lists: usize,
-    start: &[i64],
-    end: &[i64],
-    value: &[i64],
-    n: usize,
+// The columns of a many-way answer.
+#[derive(Clone, Copy)]
+pub struct Rows<'a> {
+    pub start: &'a [i64],
+    pub end: &'a [i64],
+    pub value: &'a [i64],
+}
+
+impl Table<3> for Rows<'_> {
+    ghost count = { λ r. room (columns_of r) };
+
+    ghost fields = { λ r i. row (row_at (columns_of r) i) };
+
+    ghost few = { lit≤ tt };
+
+    fn row(&self, i: usize) -> [Field; 3] {
+        [
+            Field::Number(self.start[i]),
+            Field::Number(self.end[i]),
+            Field::Number(self.value[i]),
+        ]
+    }
+}
+
+// Prints a header and as many rows.
+fn print_table<const N: usize, T: Table<N>>(
+    header: Header,
+    table: &T,
     out: &mut [u8],
-) -> usize
-    requires { Rows (columns start.now end.now value.now) n }
-    ensures { leaves result out.new ≡ print (merged_text operation combiner lists (columns start.now end.now value.now) n) out.old }
+) -> Option<usize>
+    requires { header.pieces ≤ T.count table.now }
+    ensures { tries result out.new ≡ attempt (line (header_of header) ++ rows_text (T.fields table.now) header.pieces) out.old }
 {
-    let head = header_width(operation, combiner, lists, n);
-    if out.len() < head {
-        return 0;
-    }
-    if rows::fit(start, end, value, n, out.len() - head) {
-        let at = put_header(operation, combiner, lists, n, out);
-        rows::put_rows(start, end, value, n, at, out)
-    } else {
-        0
-    }
+    let first = header.fields();
+    let spare = after_line(&first, out.len())?;
+    after_rows(table, header.pieces, spare)?;
+    let mut writer = Writer { out, at: 0 };
+    writer.line(&first);
+    put_rows(table, header.pieces, &mut writer);
+    Some(writer.at)
 }
 
-// Prints a two-way answer whose pieces are the first n of the columns.
-pub fn print_paired(
-    operation: u8,
-    combiner: u8,
-    lists: usize,
-    start: &[i64],
-    end: &[i64],
-    left: &[i32],
-    right: &[i32],
-    presence: &[u8],
-    n: usize,
-    out: &mut [u8],
-) -> usize
-    requires { Pairs (pair_columns start.now end.now left.now right.now presence.now) n }
-    ensures { leaves result out.new
-        ≡ print (paired_text operation combiner lists (pair_columns start.now end.now left.now right.now presence.now) n) out.old }
+// Prints a many-way answer, whose pieces are the first rows of the columns.
+pub fn print_merged(header: Header, rows: Rows, out: &mut [u8]) -> Option<usize>
+    requires { header.pieces ≤ room (columns_of rows) }
+    ensures { tries result out.new
+        ≡ attempt (merged_text header.operation header.combiner header.lists (columns_of rows.entry) header.pieces) out.old }
 {
-    let head = header_width(operation, combiner, lists, n);
-    if out.len() < head {
-        return 0;
-    }
-    if text_pairs::fit(start, end, left, right, presence, n, out.len() - head) {
-        let at = put_header(operation, combiner, lists, n, out);
-        text_pairs::put_rows(start, end, left, right, presence, n, at, out)
-    } else {
-        0
-    }
+    print_table(header, &rows, out)
+}
+
+// Prints a two-way answer, whose pieces are the first rows of the columns.
+pub fn print_paired(header: Header, pairs: Pairs, out: &mut [u8]) -> Option<usize>
+    requires { header.pieces ≤ pair_room (pair_columns_of pairs) }
+    ensures { tries result out.new
+        ≡ attempt (paired_text header.operation header.combiner header.lists (pair_columns_of pairs.entry) header.pieces) out.old }
+{
+    print_table(header, &pairs, out)
 }
 
 // Prints a refusal.
-pub fn print_refusal(code: u8, number: usize, out: &mut [u8]) -> usize
-    ensures { leaves result out.new ≡ print (refusal_text code number) out.old }
+pub fn print_refusal(code: u8, number: usize, out: &mut [u8]) -> Option<usize>
+    ensures { tries result out.new ≡ attempt (refusal_text code number) out.old }
 {
-    if out.len() < digits_width(code as u64) + digits_width(number as u64) + 10 {
-        return 0;
-    }
-    let first = put_word(b"refused ", 0, out);
-    let second = put_count(code as u64, b' ', first, out);
-    put_count(number as u64, b'\n', second, out)
+    let fields = [
+        Field::Refused,
+        Field::Count(u64::from(code)),
+        Field::Count(number as u64),
+    ];
+    after_line(&fields, out.len())?;
+    let mut writer = Writer { out, at: 0 };
+    writer.line(&fields);
+    Some(writer.at)
 }

@@ -1,6 +1,5 @@
 -- The laws of what is left of two lists: the piece that comes next, taken off.
 pub mod Peel
 pub mod Sides
-pub mod Kept
 pub mod Emit
 pub mod Next

@@ -1,14 +1,122 @@
-// What the two-way joins need beside the columns: how many pieces there is room for.
+// The two-way joins over lent columns: inner, left and full.
 
 #![tactic(auto)]
 
-ghost use Rattle.std.specs.Prelude.{◌≡◌, min};
+ghost use Rattle.std.specs.Prelude.{◌≡◌};
+ghost use Rattle.rules.specs.Lists.{held};
+ghost use Rattle.rules.specs.Answer.{leaves};
+ghost use Rattle.rules.specs.Paired.{before, after};
+ghost use Rattle.rules.specs.Outcomes.{pairing};
+ghost use Rattle.rules.specs.declared.Pairing.TheVariants.{Inner, Left, Full};
 
-use rules::shorter;
+use form::judge;
+use integer::Integer;
+use passes::{conclude, most};
+use rules::{Kind, Lists, Pairing, Refusal};
+use two_way_pass::pass;
 
-// The length of the shortest of five columns.
-pub fn shortest(a: usize, b: usize, c: usize, d: usize, e: usize) -> usize
-    ensures { result ≡ min a (min b (min c (min d e))) }
+// The join that is asked for: what is refused, or all pieces, where there is room for them. Where the room may not do, a counting
+// pass tells how many there are.
+pub fn join_lists<P: Integer>(
+    asked: Pairing,
+    lent: Lists<P>,
+    out_start: &mut [P],
+    out_end: &mut [P],
+    out_left: &mut [i32],
+    out_right: &mut [i32],
+    out_presence: &mut [u8],
+) -> Result<usize, Refusal>
+    ensures { leaves result (after out_start out_end out_left out_right out_presence)
+        ≡ pairing P.width asked (held lent.entry) (before out_start out_end out_left out_right out_presence) }
 {
-    shorter(a, shorter(b, shorter(c, shorter(d, e))))
+    judge(Kind::TwoWay, lent)?;
+    let ends = out_start.len().min(out_end.len());
+    let sides = out_left.len().min(out_right.len());
+    let room = ends.min(sides).min(out_presence.len());
+    let mut sure = most(lent.starts.len()) <= room;
+    loop {
+        let count = pass(
+            asked,
+            lent,
+            sure,
+            out_start,
+            out_end,
+            out_left,
+            out_right,
+            out_presence,
+        );
+        if let Some(answer) = conclude(sure, count, room) {
+            return answer;
+        }
+        sure = true;
+    }
+}
+
+// The inner join of two lists: every run that a range of both covers.
+pub fn inner_join<P: Integer>(
+    lent: Lists<P>,
+    out_start: &mut [P],
+    out_end: &mut [P],
+    out_left: &mut [i32],
+    out_right: &mut [i32],
+    out_presence: &mut [u8],
+) -> Result<usize, Refusal>
+    ensures { leaves result (after out_start out_end out_left out_right out_presence)
+        ≡ pairing P.width Inner (held lent.entry) (before out_start out_end out_left out_right out_presence) }
+{
+    join_lists(
+        Pairing::Inner,
+        lent,
+        out_start,
+        out_end,
+        out_left,
+        out_right,
+        out_presence,
+    )
+}
+
+// The left join of two lists: every run that a range of the left covers.
+pub fn left_join<P: Integer>(
+    lent: Lists<P>,
+    out_start: &mut [P],
+    out_end: &mut [P],
+    out_left: &mut [i32],
+    out_right: &mut [i32],
+    out_presence: &mut [u8],
+) -> Result<usize, Refusal>
+    ensures { leaves result (after out_start out_end out_left out_right out_presence)
+        ≡ pairing P.width Left (held lent.entry) (before out_start out_end out_left out_right out_presence) }
+{
+    join_lists(
+        Pairing::Left,
+        lent,
+        out_start,
+        out_end,
+        out_left,
+        out_right,
+        out_presence,
+    )
+}
+
+// The full join of two lists: every run that a range of either covers.
+pub fn full_join<P: Integer>(
+    lent: Lists<P>,
+    out_start: &mut [P],
+    out_end: &mut [P],
+    out_left: &mut [i32],
+    out_right: &mut [i32],
+    out_presence: &mut [u8],
+) -> Result<usize, Refusal>
+    ensures { leaves result (after out_start out_end out_left out_right out_presence)
+        ≡ pairing P.width Full (held lent.entry) (before out_start out_end out_left out_right out_presence) }
+{
+    join_lists(
+        Pairing::Full,
+        lent,
+        out_start,
+        out_end,
+        out_left,
+        out_right,
+        out_presence,
+    )
 }

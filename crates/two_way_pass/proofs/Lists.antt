@@ -13,10 +13,10 @@ use Rattle.rules.specs.declared.Pairing.{Pairing}
 use Rattle.rules.specs.declared.Kind.TheVariants.{TwoWay}
 use Rattle.rules.proofs.Columns.{length_ranges}
 use Rattle.rules.proofs.Room.{paired_room}
-use Rattle.two_way.specs.Sides.{onward, Two, start_at, end_at, stop, remains}
+use Rattle.two_way.specs.Sides.{view, onward, Two, start_at, end_at, stop, remains}
 use Rattle.two_way.specs.Steps.{Begun, Ready}
 use Rattle.two_way.specs.declared.Cursor.{Cursor}
-use Rattle.two_way.proofs.Sides.{side_fresh}
+use Rattle.two_way.proofs.Sides.{side_fresh, here_before}
 use Rattle.two_way_pass.specs.Pairs.{first, pairs, both}
 
 module _ {P : Type 0} {w : Width P} {l : Lent P} (f : Formed w TwoWay l) where
@@ -51,12 +51,19 @@ module _ {P : Type 0} {w : Width P} {l : Lent P} (f : Formed w TwoWay l) where
         go (n ∷ ns) e s = omega arith
 
     -- from their first ranges on they are ready for a step, and all pieces are to come
-    pub begun_ready : {k : Cursor} → Begun w l.starts m k → Ready t k × ((o : Pairing) → pairs w o l ≡ remains t o k)
+    pub begun_ready : {k : Cursor} → Begun t k → Ready t (view t k) × ((o : Pairing) → pairs w o l ≡ remains t o (view t k))
     begun_ready {k} b =
         let u = rw lie at f.formed in
-        let x = side_fresh (start_at t) (end_at t) m 0 k.left b.left.place b.left.from in
-        let y = side_fresh (start_at t) (end_at t) (stop t) m k.right b.right.place b.right.from in (
-          record { ends_long = f.agree.ends_long; splits = splits; left = rw x u.0; right = rw y u.1.0 },
+        let x = side_fresh w l.starts (end_at t) m 0 k.left b.left in
+        let y = side_fresh w l.starts (end_at t) (stop t) m k.right b.right in (
+          record {
+            ends_long = f.agree.ends_long;
+            splits = splits;
+            left_place = here_before m k.left;
+            right_place = here_before (stop t) k.right;
+            left = rw x u.0;
+            right = rw y u.1.0;
+          },
           λ o. ap (paired o w.points) lie ∙ rw (x, y),
         )
 

@@ -5,7 +5,8 @@ use Rattle.rules.specs.Lists.{Width, Lent}
 use Rattle.rules.specs.TwoWay.{Match, side_value, presence}
 use Rattle.rules.specs.Paired.{Paired, room, lay}
 use Rattle.rules.specs.declared.Pairing.{Pairing}
-use Rattle.two_way.specs.Sides.{no_left, no_right, piece_of}
+use Rattle.two_way.specs.Sides.{left_place, right_place, piece_of}
+use Rattle.two_way.specs.Steps.{Inside}
 use Rattle.two_way.specs.declared.Pair.{Pair}
 use Rattle.two_way_pass.specs.Pairs.{value, pairs}
 
@@ -15,9 +16,8 @@ module _ {P : Type 0} (w : Width P) (v : List ℤ) where
     pub room : place < room c
     pub start : y.start < w.points
     pub end : y.end < w.points
-    pub left : no_left y.presence ≡ false → y.left < length v
-    pub right : no_right y.presence ≡ false → y.right < length v
-    pub bits : (0 < y.presence) × (y.presence ≤ 3)
+    pub left : Inside (length v) (left_place y)
+    pub right : Inside (length v) (right_place y)
 
   -- the columns with a piece at a place
   abbrev pub row : ℕ → Piece Match → Paired P → Paired P
@@ -30,13 +30,9 @@ module _ {P : Type 0} (w : Width P) (v : List ℤ) where
         presence = set c.presence place (presence x.value);
       }
 
-  abbrev pub put_row : Bool → ℕ → Pair → Paired P → Paired P
-  put_row true place y c = row place (piece_of y) c
-  put_row false place y c = c
-
-  -- a piece is put at a place, where it is written: the columns before, and after
-  pub record PutPair (write : Bool) (place : ℕ) (y : Pair) (c d : Paired P) : Type 0 where
-    pub is : d ≡ put_row write place y c
+  -- a piece is put at a place: the columns before, and after
+  pub record PutPair (place : ℕ) (y : Pair) (c d : Paired P) : Type 0 where
+    pub is : d ≡ row place (piece_of y) c
 
   -- the columns with pieces from a place on, where they are written
   abbrev pub lays : Bool → ℕ → List (Piece Match) → Paired P → Paired P

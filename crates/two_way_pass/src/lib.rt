@@ -1,24 +1,99 @@
-// What a pass of a two-way join needs beside the columns that it writes: where the left list ends, and the value of a side.
+// One pass over all pieces of a two-way join, which counts them, and writes them where it is told to.
 
 #![tactic(auto)]
 
-ghost use Rattle.std.specs.Prelude.{◌≡◌, false, ◌<◌, length};
+ghost use Rattle.std.specs.Prelude.{◌≡◌, length};
+ghost use Rattle.rules.specs.Lists.{held};
 ghost use Rattle.rules.specs.TwoWay.{side_value};
-ghost use Rattle.two_way.specs.Sides.{unless};
-ghost use Rattle.two_way_pass.specs.Pairs.{first, value};
+ghost use Rattle.rules.specs.Paired.{output, before, after};
+ghost use Rattle.rules.specs.Refusals.{Formed};
+ghost use Rattle.rules.specs.declared.Kind.TheVariants.{TwoWay};
+ghost use Rattle.two_way.specs.Steps.{Inside};
+ghost use Rattle.two_way_pass.specs.Pairs.{value};
+ghost use Rattle.two_way_pass.specs.Columns.{Writable, PutPair, Roomy, Passed};
 
-// How many ranges the left list has.
-pub fn first_count(counts: &[u32]) -> usize
-    requires { 0 < length counts.now }
-    ensures { result ≡ first counts.now }
-{
-    counts[0] as usize
-}
+use integer::{Integer, put_key};
+use rules::{Lists, Pairing};
+use two_way::{Pair, TwoLists, next_piece};
 
 // The value at a place, or 0 for a missing side.
-pub fn value_at(values: &[i32], missing: bool, place: usize) -> i32
-    requires { missing ≡ false → place < length values.now }
-    ensures { result ≡ side_value (value values.now) (unless missing place) }
+pub fn value_at(values: &[i32], place: Option<usize>) -> i32
+    requires { Inside (length values.now) place }
+    ensures { result ≡ side_value (value values.now) place }
 {
-    if missing { 0 } else { values[place] }
+    match place {
+        Some(i) => values[i],
+        None => 0,
+    }
+}
+
+// Writes a piece at a place of the columns; values are read here alone. The columns are lent one by one, since a struct of `&mut` slices
+// can not be lent on.
+fn put<P: Integer>(
+    values: &[i32],
+    place: usize,
+    pair: Pair,
+    out_start: &mut [P],
+    out_end: &mut [P],
+    out_left: &mut [i32],
+    out_right: &mut [i32],
+    out_presence: &mut [u8],
+)
+    requires { Writable P.width values.now place pair (output out_start out_end out_left out_right out_presence) }
+    ensures { PutPair P.width values.now place pair
+        (before out_start out_end out_left out_right out_presence)
+        (after out_start out_end out_left out_right out_presence) }
+{
+    put_key(out_start, place, pair.start);
+    put_key(out_end, place, pair.end);
+    out_left[place] = value_at(values, pair.left_place());
+    out_right[place] = value_at(values, pair.right_place());
+    out_presence[place] = pair.number();
+}
+
+// All pieces of two lists: how many there are. They are written where `write` says so.
+pub fn pass<P: Integer>(
+    asked: Pairing,
+    lent: Lists<P>,
+    write: bool,
+    out_start: &mut [P],
+    out_end: &mut [P],
+    out_left: &mut [i32],
+    out_right: &mut [i32],
+    out_presence: &mut [u8],
+) -> usize
+    requires formed { Formed P.width TwoWay (held lent) }
+    requires roomy { Roomy P.width asked (held lent) write (output out_start out_end out_left out_right out_presence) }
+    ensures { Passed P.width asked (held lent.entry) write
+        (before out_start out_end out_left out_right out_presence)
+        (after out_start out_end out_left out_right out_presence) result }
+{
+    let middle = lent.counts[0] as usize;
+    let lists = TwoLists {
+        starts: lent.starts,
+        ends: lent.ends,
+        middle,
+    };
+    // A step goes on from what the one before left, so the pieces are counted as they come: an iterator would need the same count.
+    let mut cursor = lists.begin();
+    let mut count = 0;
+    loop {
+        let Some((pair, rest)) = next_piece(asked, lists, cursor) else {
+            return count;
+        };
+        if write {
+            put(
+                lent.values,
+                count,
+                pair,
+                out_start,
+                out_end,
+                out_left,
+                out_right,
+                out_presence,
+            );
+        }
+        cursor = rest;
+        count += 1;
+    }
 }

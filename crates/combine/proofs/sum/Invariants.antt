@@ -1,11 +1,6 @@
--- `combine::sum` meets its contract: the total is that of the places passed. Assumes nothing.
-use Rattle.rules.specs.Piece as pieces
-use Rattle.slots.proofs.Kept.{Kept}
-use Rattle.combine.proofs.Laws.{Total}
+use Rattle.slots.specs.Slots.{slots_of}
+use Rattle.combine.specs.Figures.{Summed}
 use Rattle.combine.proofs.sum.Given as goal
 
 abbrev pub invariant-loop-i : goal.invariant-loop-i
-invariant-loop-i l = Kept (record { current = l.current; present = l.present }) l.places l.i (λ os. Total l.places l.i l.total (pieces.present os))
-
-abbrev pub decreases-loop-i : goal.decreases-loop-i
-decreases-loop-i l = l.i
+invariant-loop-i l = Summed l.i (slots_of l.current l.present) l.total

@@ -1,28 +1,17 @@
 -- `file_head::head_at` meets its contract. Assumes nothing.
-use native.Mathlib.Omega.{arith}
-use Rattle.file_head.proofs.Heads.{head_stops, head_within, head_refused, head_opens}
+use mathlib.Core.Path.{refl}
+use Rattle.std.proofs.lemmas.Result.{err_from_is_err_and}
+use Rattle.tariff_file.specs.File.{head_layout, head_fault}
+use Rattle.file_head.proofs.Heads.{head_refused, head_opens}
 use Rattle.file_head.proofs.head_at.Goals as goal
 
-pub bounds-file-2 : goal.bounds-file-2
-bounds-file-2 c =
-    omega (arith, (head_within c.args.file.now c.record_at.result c.record_at.ensures c.in-Past.is))
+pub returns-in_err-task : goal.returns-in_err-task
+returns-in_err-task c =
+    let r = c.in_ok-rest.ensures in
+    let p = err_from_is_err_and c.from_residual-in_err-task.result c.from_residual-in_err-task.ensures.1 in
+    rw (p.1, p.2) (head_refused _ c.in_ok-rest.rest (r.marked head_layout head_fault refl refl refl) r.long _ c.number_at-lists.ensures.0 c.in_err-task.ensures)
 
-pub bounds-file-3 : goal.bounds-file-3
-bounds-file-3 c =
-    omega (arith, (head_within c.args.file.now c.record_at.result c.record_at.ensures c.in-Past.is))
-
-pub number_at-lists-requires : goal.number_at-lists-requires
-number_at-lists-requires c =
-    omega (arith, (head_within c.args.file.now c.record_at.result c.record_at.ensures c.in-Past.is))
-
-pub returns-in-Stopped : goal.returns-in-Stopped
-returns-in-Stopped c =
-    head_stops c.args.file.now c.record_at.result c.record_at.ensures c.in-Stopped.is
-
-pub returns-in-Refused : goal.returns-in-Refused
-returns-in-Refused c =
-    head_refused c.args.file.now c.record_at.result c.record_at.ensures c.in-Past.is c.number_at-lists.result c.number_at-lists.ensures.0 c.judge_head.result c.judge_head.ensures c.in-Refused.is
-
-pub returns-in-Known : goal.returns-in-Known
-returns-in-Known c =
-    head_opens c.args.file.now c.record_at.result c.record_at.ensures c.in-Past.is c.number_at-lists.result c.number_at-lists.ensures.0 c.judge_head.result c.judge_head.ensures c.in-Known.is
+pub returns : goal.returns
+returns c =
+    let r = c.in_ok-rest.ensures in
+    head_opens _ c.in_ok-rest.rest (r.marked head_layout head_fault refl refl refl) r.long _ c.number_at-lists.ensures.0 c.in_ok-task.ensures

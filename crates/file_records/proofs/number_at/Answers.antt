@@ -1,33 +1,22 @@
--- `file_records::number_at` meets its contract: the bytes passed write the number. Assumes nothing.
-use mathlib.Core.Path.{◌≡◌, sym}
+-- `file_records::number_at` meets its contract. Assumes nothing.
+use mathlib.Core.Path.{◌≡◌, ap, ◌∙◌}
+use Prim.Native.Nat.{ℕ, ◌+◌, ◌-◌}
 use native.Mathlib.Omega.{arith}
-use lib.ListN.{get_or}
-use Rattle.tariff_file.proofs.Places.{number_start}
-use Rattle.file_records.proofs.Numbers.{byte_fits, byte_more, number_next}
+use lib.ListN.{length, take, drop, length-drop}
+use lib.Seq.{length-take-le}
+use Rattle.tariff_file.specs.Layout.{number}
+use Rattle.tariff_file.proofs.Number.{number_lt}
+use Rattle.tariff_file.proofs.Places.{bytes_of}
+use Rattle.tariff_file.proofs.Record.{bytes_take}
+use Rattle.file_records.proofs.Numbers.{number_padded}
 use Rattle.file_records.proofs.number_at.Goals as goal
-
-pub loop-i-init : goal.loop-i-init
-loop-i-init c =
-    (omega arith, sym (number_start c.args.file.now c.args.at), omega arith)
-
-pub overflow_mul-n : goal.overflow_mul-n
-overflow_mul-n c =
-    omega (arith, byte_fits c.loop-i.i c.loop-i.n 0 (omega arith) c.loop-i.invariant.2 (omega arith))
-
-pub overflow_cast-n : goal.overflow_cast-n
-overflow_cast-n c =
-    omega (arith, c.type_inv.file c.place_of-place.result)
-
-pub overflow_add-n : goal.overflow_add-n
-overflow_add-n c =
-    omega (arith, byte_fits c.loop-i.i c.loop-i.n 255 (omega arith) c.loop-i.invariant.2 (omega arith), c.type_inv.file c.place_of-place.result)
-
-pub loop-i-preserved : goal.loop-i-preserved
-loop-i-preserved c =
-    let a = c.args in
-    let m = c.place_of-place.result in
-    (omega arith, number_next a.file.now a.at c.loop-i.i c.loop-i.n m (omega arith) c.place_of-place.ensures c.loop-i.invariant.1, byte_more c.loop-i.i c.loop-i.n (get_or a.file.now m 0) c.loop-i.invariant.2 (omega (arith, c.type_inv.file m)))
 
 pub returns : goal.returns
 returns c =
-    let e : c.loop-i.i ≡ c.args.k = omega arith in rw (← e) (c.loop-i.invariant.1, c.loop-i.invariant.2)
+    let k = c.args.k in
+    let s = drop c.args.at c.args.bytes.now in
+    let z : c.args.at + k - c.args.at ≡ k = omega arith in
+    let l : length (take k s) ≡ k = length-take-le k s (omega (arith, length-drop c.args.at c.args.bytes.now)) in
+    let a : c.copy_from_slice.new.self ≡ take k s = c.copy_from_slice.ensures.after ∙ ap (λ (n : ℕ). take n s) z in
+    let e : c.from_be_bytes.result ≡ number (take k s) = c.from_be_bytes.ensures ∙ rw a (number_padded (take k s) k c.requires.1 l) in
+    (e, rw e (rw l at (number_lt (take k s) (bytes_take k s (bytes_of c.args.bytes.now (λ i. omega (arith, c.type_inv.bytes i)) c.args.at)))))

@@ -1,4 +1,4 @@
 use Rattle.heap.proofs.+climb.Given as goal
 
 abbrev pub decreases-climb : goal.decreases-climb
-decreases-climb l = l.place
+decreases-climb g l = l.place

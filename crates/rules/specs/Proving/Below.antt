@@ -1,11 +1,12 @@
 -- The frontier: pieces that say what a rule says of the points below it. Assumes nothing.
 use Rattle.std.specs.Prelude.{ℕ, ◌+◌, ◌<◌, ◌≡◌, List, [], ◌∷◌, map, length}
-use Rattle.std.proofs.Math.Option.{Option, none}
+use Rattle.std.specs.declared.option.Option.{Option}
+use Rattle.std.specs.declared.option.Option.TheVariants.{None}
 use Rattle.rules.specs.Piece.{Piece, at, Canonical}
 
 -- what lists have where none has a piece
 abbrev pub nones : {A : Type 0} → List (List (Piece A)) → List (Option A)
-nones ls = map (λ l. none) ls
+nones ls = map (λ l. None) ls
 
 -- the ranges of all lists
 abbrev pub size : {A : Type 0} → List (List (Piece A)) → ℕ

@@ -1,25 +1,7 @@
 -- `print_merged` meets its contract: the header, then the rows. Assumes nothing.
-use native.Mathlib.Omega.{arith}
-use Rattle.rules.specs.Merged.{columns}
-use Rattle.text_rows.proofs.Prints.{first_unfit, second_unfit, first_room, second_room, both_printed, merged_parts}
+use Rattle.text_rows.specs.Parts.{columns_of}
+use Rattle.text_rows.proofs.Prints.{merged_parts}
 use Rattle.text_rows.proofs.print_merged.Goals as goal
 
-pub returns-then-out-head : goal.returns-then-out-head
-returns-then-out-head c =
-    first_unfit (record { parts = merged_parts c.args.operation c.args.combiner c.args.lists (columns c.args.start.now c.args.end.now c.args.value.now) c.args.n; first = c.header_width-head.ensures }) (omega arith)
-
-pub put_header-at-requires : goal.put_header-at-requires
-put_header-at-requires c =
-    first_room (record { parts = merged_parts c.args.operation c.args.combiner c.args.lists (columns c.args.start.now c.args.end.now c.args.value.now) c.args.n; first = c.header_width-head.ensures }) (omega arith) c.fit.ensures c.if-fit.true
-
-pub put_rows-requires : goal.put_rows-requires
-put_rows-requires c =
-    (c.requires, second_room (record { parts = merged_parts c.args.operation c.args.combiner c.args.lists (columns c.args.start.now c.args.end.now c.args.value.now) c.args.n; first = c.header_width-head.ensures }) (omega arith) c.fit.ensures c.if-fit.true c.put_header-at.ensures)
-
-pub returns-then-fit : goal.returns-then-fit
-returns-then-fit c =
-    both_printed (record { parts = merged_parts c.args.operation c.args.combiner c.args.lists (columns c.args.start.now c.args.end.now c.args.value.now) c.args.n; first = c.header_width-head.ensures }) (omega arith) c.fit.ensures c.if-fit.true c.put_header-at.ensures c.put_rows.ensures
-
-pub returns-else-fit : goal.returns-else-fit
-returns-else-fit c =
-    second_unfit (record { parts = merged_parts c.args.operation c.args.combiner c.args.lists (columns c.args.start.now c.args.end.now c.args.value.now) c.args.n; first = c.header_width-head.ensures }) (omega arith) c.fit.ensures c.if-fit.false
+pub returns : goal.returns
+returns c = let h = c.args.header in rw (merged_parts h.operation h.combiner h.lists (columns_of c.args.rows) h.pieces) c.print_table.ensures

@@ -1,6 +1,0 @@
--- `guineatwirl_instant_two_way_left_join` meets its contract. Assumes nothing.
-use Rattle.rules.proofs.Said.{said}
-use Rattle.guineatwirl_two_way_left_instant.proofs.guineatwirl_instant_two_way_left_join.Goals as goal
-
-pub returns : goal.returns
-returns c = said c.left_join-left.ensures c.code.ensures c.number.ensures

@@ -1,9 +1,0 @@
-use Prim.Native.Nat.{◌-◌, ◌<◌, ◌≤◌}
-use Rattle.heap.specs.Heap.{entries_of, Heap}
-use Rattle.heap_test.proofs.fill.Given as goal
-
-abbrev pub invariant-loop-len : goal.invariant-loop-len
-invariant-loop-len l = Heap (entries_of l.keys l.lists) l.len × (l.len ≤ 16) × (l.list < 16)
-
-abbrev pub decreases-loop-len : goal.decreases-loop-len
-decreases-loop-len l = 16 - l.len

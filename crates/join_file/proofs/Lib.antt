@@ -1,2 +1,0 @@
--- What a printing call answers.
-pub mod Counted

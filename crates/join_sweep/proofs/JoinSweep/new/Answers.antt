@@ -1,0 +1,10 @@
+-- `JoinSweep::new` meets its contract. Assumes nothing.
+use mathlib.Core.Path.{refl}
+use Rattle.multiway_sweep.proofs.Begun.{begun}
+use Rattle.join_sweep.proofs.JoinSweep.new.Goals as goal
+
+pub step-held-requires : goal.step-held-requires
+step-held-requires g c = (_, begun c.requires.1 c.new-sweep.ensures)
+
+pub returns : goal.returns
+returns g c = record { holds = (c.step-held.ensures.next _ (begun c.requires.1 c.new-sweep.ensures)).1; blank = refl; idle = refl; first = refl }

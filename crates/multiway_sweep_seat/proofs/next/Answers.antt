@@ -1,7 +1,0 @@
--- `next` meets its contract. Assumes nothing.
-use Rattle.rules.specs.Lists.{seats}
-use Rattle.multiway_sweep.proofs.Sweeps.{went}
-use Rattle.multiway_sweep_seat.proofs.next.Goals as goal
-
-pub returns : goal.returns
-returns c rest g = went seats _ c.args.sweep c.step-taken.result _ c.in_default.not-Done (c.step-taken.ensures rest g) c.sizes_after-sizes.ensures

@@ -1,2 +1,0 @@
--- The laws of a list of tariff structs. Assumes nothing.
-pub mod Alone

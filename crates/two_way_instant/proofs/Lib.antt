@@ -1,2 +1,0 @@
--- What the joins' proofs share.
-mod Both

@@ -1,0 +1,25 @@
+-- `two_way_pass::pass` meets its contract: the pieces laid and those that are left are all pieces. Assumes nothing.
+use mathlib.Core.Path.{refl}
+use native.Mathlib.Omega.{arith}
+use Rattle.two_way_pass.proofs.Laying.{going_first, going_few, going_more, going_last}
+use Rattle.two_way_pass.proofs.pass.Goals as goal
+use Rattle.two_way_pass.proofs.pass.Goals.{then-write, else-write}
+
+pub loop-pair-init : goal.loop-pair-init
+loop-pair-init g c =
+    going_first c.requires.formed refl (λ e. omega (arith, c.requires.roomy.enough e)) c.begin-cursor.ensures
+
+pub returns-in_default : goal.returns-in_default
+returns-in_default g c =
+    let e = going_last c.loop-pair.invariant c.next_piece.ensures c.in_default.is in record { count = e.0; laid = e.1 }
+
+pub overflow_add-count : goal.overflow_add-count
+overflow_add-count g c =
+    omega (arith, going_few c.loop-pair.invariant c.next_piece.ensures c.in-Some.is)
+
+pub loop-pair-preserved : goal.loop-pair-preserved
+loop-pair-preserved g c =
+    going_more c.loop-pair.invariant c.next_piece.ensures c.in-Some.is {place = c.loop-pair.count} (omega arith) (elim c.if-write.branch [
+      | then-write w ↦ rw (w.out_start-is, w.out_end-is, w.out_left-is, w.out_right-is, w.out_presence-is, w.if-write.true) w.put.ensures.is
+      | else-write w ↦ rw (w.out_start-is, w.out_end-is, w.out_left-is, w.out_right-is, w.out_presence-is, w.if-write.false) refl
+    ])
