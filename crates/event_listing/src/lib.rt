@@ -12,8 +12,9 @@ ghost use Rattle.multiway_sweep.specs.Steps.{event_of};
 ghost use Rattle.event_listing.specs.Listing.{RowOf, answer_for, Writable, PutRow, Listable, Wrote};
 
 use form::judge;
+use heap::Heap;
 use integer::{Integer, put_key};
-use multiway_sweep::{Event, Sweep};
+use multiway_sweep::{Event, NO_COURSES, SweepMut};
 use rules::{Kind, Lists, Refusal};
 
 // An event as the columns have it, its point told by its key.
@@ -92,7 +93,10 @@ fn write_events<P: Integer>(
         let d = after out_kind out_point out_list out_value in
         Wrote P.width (held lent.entry) c d }
 {
-    let mut sweep = Sweep::new(lent);
+    let mut courses = NO_COURSES;
+    let mut starts = Heap::new();
+    let mut active_ends = Heap::new();
+    let mut sweep = SweepMut::new(lent, &mut courses, &mut starts, &mut active_ends);
     for place in 0..2 * lent.starts.len() {
         let Some(event) = sweep.step(lent) else {
             unreachable!()

@@ -14,7 +14,7 @@ use Rattle.rules.specs.Sweep as rules
 use Rattle.rules.specs.Proving.Below.{nones}
 use Rattle.rules.proofs.Sweep.{kind_small}
 use Rattle.multiway_sweep.specs.Front.{edge, Front}
-use Rattle.multiway_sweep.specs.Steps.{Reading, NoStart, Took, Holds}
+use Rattle.multiway_sweep.specs.Steps.{whole, Reading, NoStart, Took, Holds}
 use Rattle.multiway_sweep.specs.declared.Event.{Event}
 use Rattle.multiway_sweep.specs.declared.Event.TheVariants.{Start, End}
 use Rattle.multiway_sweep.proofs.Front.{front_column, front_last, front_ends, front_point}
@@ -41,7 +41,7 @@ module _ {P : Type 0} {w : Width P} {c : Reading P} {ls : List (List Range)} {j 
   nowhere : (j.active_count ≡ 0) × NoStart j.held → (p : ℕ) → k ≤ p → column ls p ≡ nones ls
   nowhere q p h = go j.held q.1 g.holds
     where
-      go : (r : Option Event) → NoStart r → Holds w c j.sweep r g.left → column ls p ≡ nones ls
+      go : (r : Option Event) → NoStart r → Holds w c (whole j.sweep) r g.left → column ls p ≡ nones ls
       go None n e = front_column w.points ls g.formed (rw e at g.front) p (omega arith) tt ∙ idle q.0
       go (Some (Start x list v)) n e = absurd n
       go (Some (End at list)) n e = absurd (idle_end q.0 (rw e.1 at g.front))
@@ -57,7 +57,7 @@ module _ {P : Type 0} {w : Width P} {c : Reading P} {ls : List (List Range)} {j 
   begins start (inl q) = record { joining = subst (λ i. Joining w c ls j (2 * i)) (sym q.1) g; busy = inl q.0; later = omega arith; gap = λ p h l. absurd (omega arith) }
   begins start (inr q) = go j.held refl q.1 g.holds
     where
-      go : (r : Option Event) → j.held ≡ r → StartsAt start r → Holds w c j.sweep r g.left → BeginsAt start
+      go : (r : Option Event) → j.held ≡ r → StartsAt start r → Holds w c (whole j.sweep) r g.left → BeginsAt start
       go None h n e = absurd n
       go (Some (End at list)) h n e = absurd n
       go (Some (Start x list v)) h n e =
@@ -85,7 +85,7 @@ module _ {P : Type 0} {w : Width P} {c : Reading P} {ls : List (List Range)} {j 
   pub ahead : Ahead start j.held
   ahead = go j.held o.joining.holds
     where
-      go : (r : Option Event) → Holds w c j.sweep r o.joining.left → Ahead start r
+      go : (r : Option Event) → Holds w c (whole j.sweep) r o.joining.left → Ahead start r
       go None e =
           let q = front_last w.points ls o.joining.formed (rw e at o.joining.front) in
           absurd (omega (arith, o.busy, o.joining.counted.count, ap (λ l. length (present l)) q, nones_count ls))
@@ -101,7 +101,7 @@ module _ {P : Type 0} {w : Width P} {c : Reading P} {ls : List (List Range)} {j 
     abbrev found : Type 0
     found = Finds w c ls k ended (Some (record { start = start; end = end }))
 
-    upto : {x : rules.Event ℤ} → Took w c j.sweep x o.joining.left → start < edge x → end + 1 ≡ edge x → Later (2 * end + 1) j.held → found
+    upto : {x : rules.Event ℤ} → Took w c (whole j.sweep) x o.joining.left → start < edge x → end + 1 ≡ edge x → Later (2 * end + 1) j.held → found
     upto {x} e l r m =
         let f = rw e.1 at o.joining.front in
         let n = kind_small x in (
@@ -119,7 +119,7 @@ module _ {P : Type 0} {w : Width P} {c : Reading P} {ls : List (List Range)} {j 
     pub stretch : Reached j.held end → found
     stretch r = go j.held refl o.joining.holds ahead r
       where
-        go : (h : Option Event) → j.held ≡ h → Holds w c j.sweep h o.joining.left → Ahead start h → Reached h end → found
+        go : (h : Option Event) → j.held ≡ h → Holds w c (whole j.sweep) h o.joining.left → Ahead start h → Reached h end → found
         go (Some (Start y list v)) q e l r = upto e l r (rw q (omega arith))
         go (Some (End at list)) q e l r = upto e l r (rw q (omega arith))
         go None q e l r = absurd l

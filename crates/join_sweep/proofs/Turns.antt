@@ -14,11 +14,11 @@ use Rattle.rules.specs.Lists.{Width}
 use Rattle.rules.specs.Sweep as rules
 use Rattle.rules.specs.Proving.Moments.{moment}
 use Rattle.multiway_sweep.specs.Front.{apply, Front, Next as Due}
-use Rattle.multiway_sweep.specs.Steps.{Reading, On, Took, Holds, Underway, TakesNext}
+use Rattle.multiway_sweep.specs.Steps.{whole, Reading, On, Took, Holds, Underway, TakesNext}
 use Rattle.multiway_sweep.specs.declared.Range.{Range as Span}
 use Rattle.multiway_sweep.specs.declared.Event.{Event}
 use Rattle.multiway_sweep.specs.declared.Event.TheVariants.{Start, End}
-use Rattle.multiway_sweep.specs.declared.Sweep.{Sweep}
+use Rattle.multiway_sweep.specs.declared.SweepMut.{SweepMut}
 use Rattle.multiway_sweep.proofs.Front.{front_take, front_move, front_list, front_starts, front_ends}
 use Rattle.slots.specs.Slots.{active, slots_of}
 use Rattle.join_sweep.specs.Stretches.{after, moment_of, StartsAt, EndsAt, EndsWith, StartsWith, Busy, places, Joining, Opened}
@@ -33,7 +33,7 @@ module _ {P : Type 0} {w : Width P} {c : Reading P} {ls : List (List Range)} {j 
   later_left : (u : ℕ) → Later u j.held → Due u g.left
   later_left u = go j.held g.holds
     where
-      go : (r : Option Event) → Holds w c j.sweep r g.left → Later u r → Due u g.left
+      go : (r : Option Event) → Holds w c (whole j.sweep) r g.left → Later u r → Due u g.left
       go (Some (Start y list v)) e l = rw e.1 l
       go (Some (End at list)) e l = rw e.1 l
       go None e l = rw e tt
@@ -56,12 +56,12 @@ module _ {P : Type 0} {w : Width P} {c : Reading P} {ls : List (List Range)} {j 
   ended_at last = record { formed = g.formed; current_long = g.current_long; present_long = g.present_long; counted = g.counted; left = g.left; front = g.front; holds = g.holds }
 
   -- the event x is held
-  module _ {x : rules.Event ℤ} (holding : Took w c j.sweep x g.left) where
+  module _ {x : rules.Event ℤ} (holding : Took w c (whole j.sweep) x g.left) where
     front_held : Front ls t (x ∷ holding.0) (active (length ls) (places j))
     front_held = rw holding.1 at g.front
 
     -- the sweep stands past it
-    past : Underway w c j.sweep
+    past : Underway w c (whole j.sweep)
     past = (holding.0, holding.2)
 
     due : t ≤ moment x
@@ -71,7 +71,7 @@ module _ {P : Type 0} {w : Width P} {c : Reading P} {ls : List (List Range)} {j 
     list_few = omega (arith, front_list w.points ls g.formed front_held, g.counted.few)
 
     -- it is taken, and the next one is held
-    module _ {b : Sweep} {r : Option Event} (st : TakesNext w c j.sweep b r) (e : moment x ≡ t) where
+    module _ {b : SweepMut} {r : Option Event} (st : TakesNext w c (whole j.sweep) (whole b) r) (e : moment x ≡ t) where
       taken : (u : List ℤ) (v : List Bool) (n : ℕ) (last : Option ℕ) → length u ≡ 16 → length v ≡ 16 → active (length ls) (slots_of u v) ≡ apply x (active (length ls) (places j)) → n ≡ length (present (apply x (active (length ls) (places j)))) → Joining w c ls (record { sweep = b; held = r; current = u; present = v; active_count = n; last_end = last }) t
       taken u v n last cl pl q k =
           record {
@@ -86,13 +86,13 @@ module _ {P : Type 0} {w : Width P} {c : Reading P} {ls : List (List Range)} {j 
 
   -- a range ends: its list has nothing from there on
   module _ {at list : ℕ} (h : j.held ≡ Some (End at list)) where
-    end_held : Took w c j.sweep (rules.ends at list) g.left
+    end_held : Took w c (whole j.sweep) (rules.ends at list) g.left
     end_held = rw h at g.holds
 
     fewer : j.active_count ≡ length (present (set (active (length ls) (places j)) list None)) + 1
     fewer = let f = front_ends w.points ls g.formed (front_held end_held) in g.counted.count ∙ count_less (active (length ls) (places j)) list f.0 f.1
 
-    end_past : Underway w c j.sweep
+    end_past : Underway w c (whole j.sweep)
     end_past = past end_held
 
     end_due : t ≤ 2 * at + 1
@@ -104,13 +104,13 @@ module _ {P : Type 0} {w : Width P} {c : Reading P} {ls : List (List Range)} {j 
     some_active : 0 < j.active_count
     some_active = omega (arith, fewer)
 
-    ended : {b : Sweep} {r : Option Event} → TakesNext w c j.sweep b r → t ≡ 2 * at + 1 → Joining w c ls (record { sweep = b; held = r; current = j.current; present = set j.present list false; active_count = j.active_count - 1; last_end = j.last_end }) t
+    ended : {b : SweepMut} {r : Option Event} → TakesNext w c (whole j.sweep) (whole b) r → t ≡ 2 * at + 1 → Joining w c ls (record { sweep = b; held = r; current = j.current; present = set j.present list false; active_count = j.active_count - 1; last_end = j.last_end }) t
     ended st e =
         taken end_held st (sym e) _ _ _ _ g.current_long (length-set j.present list false ∙ g.present_long) (absent_set (places j) (length ls) list (omega (arith, end_list, g.present_long))) (omega (arith, fewer))
 
   -- a range starts: its list has its value from there on
   module _ {y : Span} {list : ℕ} {v : ℤ} (h : j.held ≡ Some (Start y list v)) where
-    start_held : Took w c j.sweep (rules.starts y.start list v) g.left
+    start_held : Took w c (whole j.sweep) (rules.starts y.start list v) g.left
     start_held = rw h at g.holds
 
     more : j.active_count + 1 ≡ length (present (set (active (length ls) (places j)) list (Some v)))
@@ -119,7 +119,7 @@ module _ {P : Type 0} {w : Width P} {c : Reading P} {ls : List (List Range)} {j 
         let m = active_length (length ls) (places j) in
         omega (arith, g.counted.count, count_more (active (length ls) (places j)) list v (omega arith) (front_starts w.points ls g.formed (front_held start_held)))
 
-    start_past : Underway w c j.sweep
+    start_past : Underway w c (whole j.sweep)
     start_past = past start_held
 
     start_due : t ≤ 2 * y.start
@@ -129,7 +129,7 @@ module _ {P : Type 0} {w : Width P} {c : Reading P} {ls : List (List Range)} {j 
     start_few : (list < 16) × (j.active_count < 16)
     start_few = (list_few start_held, omega (arith, more, g.counted.few, count_upto (set (active (length ls) (places j)) list (Some v)), length-set (active (length ls) (places j)) list (Some v), active_length (length ls) (places j)))
 
-    started : {u : ℤ} → u ≡ v → {b : Sweep} {r : Option Event} → TakesNext w c j.sweep b r → t ≡ 2 * y.start → Joining w c ls (record { sweep = b; held = r; current = set j.current list u; present = set j.present list true; active_count = j.active_count + 1; last_end = j.last_end }) t
+    started : {u : ℤ} → u ≡ v → {b : SweepMut} {r : Option Event} → TakesNext w c (whole j.sweep) (whole b) r → t ≡ 2 * y.start → Joining w c ls (record { sweep = b; held = r; current = set j.current list u; present = set j.present list true; active_count = j.active_count + 1; last_end = j.last_end }) t
     started k st e =
         rw k
         (taken start_held st (omega arith) _ _ _ _ (length-set j.current list v ∙ g.current_long) (length-set j.present list true ∙ g.present_long)
@@ -162,10 +162,10 @@ module _ {P : Type 0} {w : Width P} {c : Reading P} {ls : List (List Range)} {j 
     pub ended_few : (list < 16) × (0 < j.active_count)
     ended_few = (end_list g ends.2, some_active g ends.2)
 
-    pub ended_past : Underway w c j.sweep
+    pub ended_past : Underway w c (whole j.sweep)
     ended_past = end_past g ends.2
 
-    pub ended_on : {b : Sweep} {r : Option Event} → TakesNext w c j.sweep b r → Joining w c ls (record { sweep = b; held = r; current = j.current; present = set j.present list false; active_count = j.active_count - 1; last_end = j.last_end }) (moment_of j.last_end)
+    pub ended_on : {b : SweepMut} {r : Option Event} → TakesNext w c (whole j.sweep) (whole b) r → Joining w c ls (record { sweep = b; held = r; current = j.current; present = set j.present list false; active_count = j.active_count - 1; last_end = j.last_end }) (moment_of j.last_end)
     ended_on st = ended g ends.2 st (ap moment_of ends.1)
 
 -- the held event is looked at: one of the starts at a point, or else they are all taken
@@ -189,8 +189,8 @@ module _ {P : Type 0} {w : Width P} {c : Reading P} {ls : List (List Range)} {j 
     pub started_few : (list < 16) × (j.active_count < 16)
     started_few = start_few g begins.2
 
-    pub started_past : Underway w c j.sweep
+    pub started_past : Underway w c (whole j.sweep)
     started_past = start_past g begins.2
 
-    pub started_on : {u : ℤ} → u ≡ v → {b : Sweep} {r : Option Event} → TakesNext w c j.sweep b r → Joining w c ls (record { sweep = b; held = r; current = set j.current list u; present = set j.present list true; active_count = j.active_count + 1; last_end = j.last_end }) (2 * start)
+    pub started_on : {u : ℤ} → u ≡ v → {b : SweepMut} {r : Option Event} → TakesNext w c (whole j.sweep) (whole b) r → Joining w c ls (record { sweep = b; held = r; current = set j.current list u; present = set j.present list true; active_count = j.active_count + 1; last_end = j.last_end }) (2 * start)
     started_on k st = started g begins.2 k st (omega (arith, begins.1))

@@ -8,7 +8,7 @@ use Rattle.rules.specs.Sweep as rules
 use Rattle.slots.specs.Slots.{Slots, slots_of, active, Counted}
 use Rattle.slots.specs.Stretch.{Stretch, NoStretch}
 use Rattle.multiway_sweep.specs.Front.{edge, Front, Next as Due}
-use Rattle.multiway_sweep.specs.Steps.{Reading, NoStart, On, Holds}
+use Rattle.multiway_sweep.specs.Steps.{Reading, whole, NoStart, On, Holds}
 use Rattle.multiway_sweep.specs.declared.Range.{Range as Span}
 use Rattle.multiway_sweep.specs.declared.Event.{Event}
 use Rattle.multiway_sweep.specs.declared.Event.TheVariants.{Start, End}
@@ -83,7 +83,7 @@ nowhere = slots_of (replicate 16 (pos 0)) (replicate 16 false)
 module _ {P : Type 0} (w : Width P) (c : Reading P) where
   -- before the first stretch: of the events that are left the first is held
   pub record Ready (j : JoinSweep) (left : List (rules.Event ℤ)) : Type 0 where
-    pub holds : Holds w c j.sweep j.held left
+    pub holds : Holds w c (whole j.sweep) j.held left
     pub blank : places j ≡ nowhere
     pub idle : j.active_count ≡ 0
     pub first : j.last_end ≡ None
@@ -97,7 +97,7 @@ module _ {P : Type 0} (w : Width P) (c : Reading P) where
       pub counted : Counted (length ls) j.active_count (places j)
       pub left : List (rules.Event ℤ)
       pub front : Front ls t left (active (length ls) (places j))
-      pub holds : Holds w c j.sweep j.held left
+      pub holds : Holds w c (whole j.sweep) j.held left
 
     -- the starts of a point are taken, and something is active
     pub record Opened (j : JoinSweep) (start : ℕ) : Type 0 where

@@ -9,19 +9,20 @@ ghost use Rattle.rules.specs.Lists.{held, lists};
 ghost use Rattle.rules.specs.Sweep.{events};
 ghost use Rattle.rules.specs.Refusals.{Formed};
 ghost use Rattle.rules.specs.declared.Kind.{Kind};
-ghost use Rattle.multiway_sweep.specs.Steps.{reads};
+ghost use Rattle.multiway_sweep.specs.Steps.{reads, whole};
+ghost use Rattle.multiway_sweep.specs.Sweeps.{NewSweep};
 ghost use Rattle.join_sweep.specs.Stretches.{next_of, end_of, EndsWith, StartsWith, Busy, Begun, BegunAfter, Ahead, Reached};
 ghost use Rattle.join_sweep.specs.Stretches.{Ready, Joining, Stands, Opened, Finds};
 
 use integer::Integer;
-use multiway_sweep::{Event, Range, Sweep};
+use multiway_sweep::{Event, Range, SweepMut};
 use rules::Lists;
 
 // A sweep, of whose events one is held back; what the lists have on the last stretch, in sixteen places; how many of them are active;
 // and where that stretch ended.
 #[derive(Drop)]
-pub struct JoinSweep {
-    pub sweep: Sweep,
+pub struct JoinSweep<'a> {
+    pub sweep: SweepMut<'a>,
     pub held: Option<Event>,
     // Two arrays, as the combiners read them.
     pub current: [i32; 16],
@@ -30,13 +31,14 @@ pub struct JoinSweep {
     pub last_end: Option<u64>,
 }
 
-impl JoinSweep {
-    // The sweep over lists, before the first stretch.
-    pub fn new<P: Integer>(lent: Lists<P>) -> JoinSweep
-        requires { (k : Kind) × Formed P.width k (held lent) }
+impl<'a> JoinSweep<'a> {
+    // The join's sweep of a sweep over the lists, before the first stretch.
+    pub fn new<P: Integer>(lent: Lists<P>, sweep: SweepMut<'a>) -> JoinSweep<'a>
+        requires formed { (k : Kind) × Formed P.width k (held lent) }
+        requires new { NewSweep P.width (held lent) (whole sweep) }
         ensures { let l = held lent.entry in Ready P.width (reads l) result (events (lists P.width l)) }
     {
-        let mut sweep = Sweep::new(lent);
+        let mut sweep = sweep;
         let held = sweep.step(lent);
         JoinSweep {
             sweep,

@@ -18,9 +18,11 @@ ghost use Rattle.multiway_pass.specs.Pieces.{Present, piece_of, waiting, PushedO
 ghost use Rattle.multiway_pass.specs.Passes.{Puttable, PutPieces, Mergeable};
 
 use combine::combine;
+use heap::Heap;
 use integer::{Integer, put_key};
 use join_sweep::JoinSweep;
 use many_way_rules::Admission;
+use multiway_sweep::{NO_COURSES, SweepMut};
 use rules::Lists;
 
 #[derive(Clone, Copy, Debug, PartialEq, Eq)]
@@ -134,7 +136,11 @@ pub fn pass<P: Integer>(
     ensures { let xs = merged (Join admission combiner) P.width.points (lists P.width (held lent.entry)) in
         PutPieces (lay P.width) write 0 xs (before out_start out_end out_value) (after out_start out_end out_value) result }
 {
-    let mut sweep = JoinSweep::new(lent);
+    let mut courses = NO_COURSES;
+    let mut starts = Heap::new();
+    let mut active_ends = Heap::new();
+    let lists = SweepMut::new(lent, &mut courses, &mut starts, &mut active_ends);
+    let mut sweep = JoinSweep::new(lent, lists);
     let mut pending = None;
     let mut count: usize = 0;
     while let Some(range) = sweep.next_stretch(lent) {

@@ -11,6 +11,7 @@ use Rattle.multiway_sweep.specs.declared.Course.{Course}
 use Rattle.multiway_sweep.specs.declared.Event.{Event}
 use Rattle.multiway_sweep.specs.declared.Event.TheVariants.{Start, End}
 use Rattle.multiway_sweep.specs.declared.Sweep.{Sweep}
+use Rattle.multiway_sweep.specs.declared.SweepMut.{SweepMut}
 
 -- whether the earliest end comes before the next start, if there is one
 abbrev pub EndFirst : Option Entry → ℕ → Bool → Type 0
@@ -53,6 +54,10 @@ stop_at courses k = (course courses k).stop
 
 abbrev pub view : Sweep → View
 view s = record { next = next_at s.courses; stops = stop_at s.courses; starts = s.starts; active_ends = s.active_ends }
+
+-- a sweep of lent parts, as one
+abbrev pub whole : SweepMut → Sweep
+whole s = record { courses = s.courses.now; starts = s.starts.now; active_ends = s.active_ends.now }
 
 -- a sweep, and the events that are left
 pub record Sweeping {P : Type 0} (w : Width P) (c : Reading P) (s : Sweep) (rest : List (rules.Event ℤ)) : Type 0 where

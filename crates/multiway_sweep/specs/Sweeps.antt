@@ -5,6 +5,7 @@ use Rattle.rules.specs.Sweep as rules
 use Rattle.multiway_sweep.specs.Steps.{Reading, Sweeping, Stepped}
 use Rattle.multiway_sweep.specs.Begins.{Begins}
 use Rattle.multiway_sweep.specs.declared.Sweep.{Sweep}
+use Rattle.multiway_sweep.specs.declared.SweepMut.{SweepMut}
 use Rattle.multiway_sweep.specs.declared.Advance.{Advance}
 
 module _ {P : Type 0} (w : Width P) (c : Reading P) where
@@ -19,3 +20,9 @@ module _ {P : Type 0} (w : Width P) (c : Reading P) where
 -- the sweep s has all events of the lists left
 abbrev pub NewSweep : {P : Type 0} → Width P → Lent P → Sweep → Type 0
 NewSweep w l s = Begins w l.starts l.counts s
+
+-- r has the parts that s has, lent by the same
+pub record Same (s r : SweepMut) : Type 0 where
+  pub courses : r.courses.ghost_name ≡ s.courses.ghost_name
+  pub starts : r.starts.ghost_name ≡ s.starts.ghost_name
+  pub active_ends : r.active_ends.ghost_name ≡ s.active_ends.ghost_name

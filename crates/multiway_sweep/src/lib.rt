@@ -4,8 +4,9 @@
 
 ghost use Rattle.std.specs.Prelude.{◌≤◌, ◌≡◌, length, None, Some};
 ghost use Rattle.rules.specs.Lists.{held, total};
-ghost use Rattle.multiway_sweep.specs.Steps.{reads, EndFirst, Underway, TakesNext, Due};
-ghost use Rattle.multiway_sweep.specs.Sweeps.{Advances, NewSweep};
+ghost use Rattle.heap.specs.declared.Heap as declared;
+ghost use Rattle.multiway_sweep.specs.Steps.{reads, whole, EndFirst, Underway, TakesNext, Due};
+ghost use Rattle.multiway_sweep.specs.Sweeps.{Advances, NewSweep, Same};
 
 use heap::{Entry, Heap};
 use integer::{Integer, key_at};
@@ -28,17 +29,31 @@ pub enum Event {
 
 // Of a list the place of its next range and the place past its last.
 #[derive(Clone, Copy)]
-struct Course {
+pub struct Course {
     next: usize,
     stop: usize,
 }
 
+pub type Courses = [Course; 16];
+
+// Lists of no ranges.
+pub const NO_COURSES: Courses = [Course { next: 0, stop: 0 }; 16];
+
 // Where a sweep stands: the courses of the lists, a heap of the starts of the next ranges, and a heap of the ends of the active ones.
 #[derive(Clone, Copy)]
 pub struct Sweep {
-    courses: [Course; 16],
+    courses: Courses,
     starts: Heap,
     active_ends: Heap,
+}
+
+// The same, of parts that are lent. Who sweeps lends three: what is larger than one of them is laid by a call of memset, which takes
+// more stack than C callers are promised.
+#[derive(Drop)]
+pub struct SweepMut<'a> {
+    courses: &'a mut Courses,
+    starts: &'a mut Heap,
+    active_ends: &'a mut Heap,
 }
 
 // What a step of a sweep took, if an event was left, and the sweep after it.
@@ -58,28 +73,61 @@ pub fn end_first(next: Option<Entry>, end: u64) -> bool
     }
 }
 
+// Lays the courses of lists and the heap of their first starts; with no range active a sweep stands before all events.
+#[inline(always)]
+fn fill<P: Integer>(lent: Lists<'_, P>, courses: &mut Courses, starts: &mut Heap)
+    requires fits { (length lent.counts.now ≤ 16) × (total lent.counts.now ≡ length lent.starts.now) }
+    requires empty { starts.old.len ≡ 0 }
+    ensures { (idle : declared.Heap) → idle.len ≡ 0 →
+        NewSweep P.width (held lent.entry) (record { courses = courses.new; starts = starts.new; active_ends = idle }) }
+{
+    let mut from: usize = 0;
+    for k in 0..lent.counts.len() {
+        let stop = from + lent.counts[k] as usize;
+        courses[k] = Course { next: from, stop };
+        if from < stop {
+            let key = key_at(lent.starts, from);
+            starts.push(Entry { key, list: k as u8 });
+        }
+        from = stop;
+    }
+}
+
 impl Sweep {
     // A sweep over lists.
     pub fn new<P: Integer>(lent: Lists<'_, P>) -> Sweep
         requires { (length lent.counts.now ≤ 16) × (total lent.counts.now ≡ length lent.starts.now) }
         ensures { NewSweep P.width (held lent.entry) result }
     {
-        let mut courses = [Course { next: 0, stop: 0 }; 16];
+        let mut courses = NO_COURSES;
         let mut starts = Heap::new();
-        let mut from: usize = 0;
-        for k in 0..lent.counts.len() {
-            let stop = from + lent.counts[k] as usize;
-            courses[k] = Course { next: from, stop };
-            if from < stop {
-                let key = key_at(lent.starts, from);
-                starts.push(Entry { key, list: k as u8 });
-            }
-            from = stop;
-        }
+        fill(lent, &mut courses, &mut starts);
         Sweep {
             courses,
             starts,
             active_ends: Heap::new(),
+        }
+    }
+}
+
+impl<'a> SweepMut<'a> {
+    // A sweep over lists.
+    #[inline(always)]
+    pub fn new<P: Integer>(
+        lent: Lists<'_, P>,
+        courses: &'a mut Courses,
+        starts: &'a mut Heap,
+        active_ends: &'a mut Heap,
+    ) -> SweepMut<'a>
+        requires fits { (length lent.counts.now ≤ 16) × (total lent.counts.now ≡ length lent.starts.now) }
+        requires empty { (starts.old.len ≡ 0) × (active_ends.old.len ≡ 0) }
+        ensures { NewSweep P.width (held lent.entry) (whole result) }
+    {
+        fill(lent, courses, starts);
+        SweepMut {
+            courses,
+            starts,
+            active_ends,
         }
     }
 
@@ -87,9 +135,10 @@ impl Sweep {
     // else read the event from memory before it is written there.
     #[inline(always)]
     pub fn step<P: Integer>(&mut self, lent: Lists<'_, P>) -> Option<Event>
-        requires { Underway P.width (reads (held lent)) self.old }
-        ensures next { TakesNext P.width (reads (held lent.entry)) self.old self.new result }
-        ensures stays { result ≡ None → self.new ≡ self.old }
+        requires { Underway P.width (reads (held lent)) (whole self.old) }
+        ensures next { TakesNext P.width (reads (held lent.entry)) (whole self.old) (whole self.new) result }
+        ensures stays { result ≡ None → whole self.new ≡ whole self.old }
+        ensures same { Same self.old self.new }
     {
         if let Some(end) = self.active_ends.top() {
             if end_first(self.starts.top(), end.key) {
@@ -104,8 +153,9 @@ impl Sweep {
     // Starts the next range of the list on top of the starts.
     #[inline(always)]
     fn begin<P: Integer>(&mut self, lent: Lists<'_, P>, start: Entry) -> Event
-        requires { Due P.width (reads (held lent)) self.old start }
-        ensures { TakesNext P.width (reads (held lent.entry)) self.old self.new (Some result) }
+        requires { Due P.width (reads (held lent)) (whole self.old) start }
+        ensures next { TakesNext P.width (reads (held lent.entry)) (whole self.old) (whole self.new) (Some result) }
+        ensures same { Same self.old self.new }
     {
         let list = start.list as usize;
         let place = self.courses[list].next;
@@ -143,6 +193,11 @@ pub fn next<P: Integer>(lent: Lists<'_, P>, sweep: Sweep) -> Advance
     ensures { Advances P.width (reads (held lent.entry)) sweep result }
 {
     let mut sweep = sweep;
-    let taken = sweep.step(lent);
+    let taken = SweepMut {
+        courses: &mut sweep.courses,
+        starts: &mut sweep.starts,
+        active_ends: &mut sweep.active_ends,
+    }
+    .step(lent);
     Advance { taken, sweep }
 }

@@ -15,10 +15,11 @@ ghost use Rattle.select_pass.specs.Stretches.{StretchesTo};
 ghost use Rattle.select_pass.specs.Selections.{Blank, Keeps, Says, Emits, Due, Takes};
 
 use active_lists::Active;
+use heap::Heap;
 use integer::Integer;
 use many_way_rules::Admission;
 use multiway_pass::{Piece, admits, push_merged, put};
-use multiway_sweep::{Event, Range, Sweep};
+use multiway_sweep::{Event, NO_COURSES, Range, SweepMut};
 use rules::Lists;
 
 // What the lists have on the current stretch: their values, and which of them are active; where it starts, while one is.
@@ -147,7 +148,10 @@ pub fn pass<P: Integer>(
     ensures { let xs = merged (Select Highest admission) P.width.points (lists P.width (held lent.entry)) in
         PutPieces (lay P.width) write 0 xs (before out_start out_end out_value) (after out_start out_end out_value) result }
 {
-    let mut sweep = Sweep::new(lent);
+    let mut courses = NO_COURSES;
+    let mut starts = Heap::new();
+    let mut active_ends = Heap::new();
+    let mut sweep = SweepMut::new(lent, &mut courses, &mut starts, &mut active_ends);
     let mut selection = Selection::new();
     let mut pending = None;
     let mut count: usize = 0;

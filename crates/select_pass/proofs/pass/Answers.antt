@@ -1,5 +1,6 @@
 -- `select_pass::pass` meets its contract: event by event, the pieces done and the one pending say what the rule says of the points dealt with. Assumes nothing.
 use native.Mathlib.Omega.{arith}
+use Rattle.multiway_sweep.specs.Steps.{whole}
 use Rattle.multiway_pass.proofs.Walks.{going_first, last_puttable, walked}
 use Rattle.multiway_pass.proofs.Merges.{walkable, all_merged}
 use Rattle.select_pass.proofs.Selects.{selecting_first, held_length, taking, none_taken, over, one_apart, one_puttable, one_going, none_going, next}
@@ -49,7 +50,7 @@ put-requires g c =
     let i = c.loop.invariant.1 in
     elim c.loop-test.branch [
       | else-loop-test w ↦ last_puttable c.loop.invariant.2 (over i (omega (arith, w.loop-test.false)))
-      | then-loop-test+in_default w ↦ last_puttable c.loop.invariant.2 (over i (none_taken i w.step.new.self (w.in_default.ensures.next _ i.sweeping)))
+      | then-loop-test+in_default w ↦ last_puttable c.loop.invariant.2 (over i (none_taken i (whole w.step.new.self) (w.in_default.ensures.next _ i.sweeping)))
     ]
 
 -- all pieces are put
@@ -58,5 +59,5 @@ returns g c =
     let i = c.loop.invariant.1 in
     elim c.loop-test.branch [
       | else-loop-test w ↦ all_merged c.requires (walked c.loop.invariant.2 (over i (omega (arith, w.loop-test.false))) c.put.ensures)
-      | then-loop-test+in_default w ↦ all_merged c.requires (walked c.loop.invariant.2 (over i (none_taken i w.step.new.self (w.in_default.ensures.next _ i.sweeping))) c.put.ensures)
+      | then-loop-test+in_default w ↦ all_merged c.requires (walked c.loop.invariant.2 (over i (none_taken i (whole w.step.new.self) (w.in_default.ensures.next _ i.sweeping))) c.put.ensures)
     ]

@@ -4,7 +4,7 @@ use Rattle.multiway_sweep.proofs.Begun.{begun}
 use Rattle.join_sweep.proofs.JoinSweep.new.Goals as goal
 
 pub step-held-requires : goal.step-held-requires
-step-held-requires g c = (_, begun c.requires.1 c.new-sweep.ensures)
+step-held-requires g c = (_, begun c.requires.formed.1 c.requires.new)
 
 pub returns : goal.returns
-returns g c = record { holds = (c.step-held.ensures.next _ (begun c.requires.1 c.new-sweep.ensures)).1; blank = refl; idle = refl; first = refl }
+returns g c = record { holds = (c.step-held.ensures.next _ (begun c.requires.formed.1 c.requires.new)).1; blank = refl; idle = refl; first = refl }

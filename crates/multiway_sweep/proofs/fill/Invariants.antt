@@ -1,7 +1,7 @@
 use Rattle.std.proofs.Common.{length}
 use Rattle.rules.specs.Lists.{keys}
 use Rattle.multiway_sweep.proofs.Filled.{Laid}
-use Rattle.multiway_sweep.proofs.Sweep.new.Given as goal
+use Rattle.multiway_sweep.proofs.fill.Given as goal
 
 abbrev pub invariant-loop-k : goal.invariant-loop-k
 invariant-loop-k g l =

@@ -1,12 +1,11 @@
--- `new` meets its contract: the courses of the lists passed are laid. Assumes nothing.
-use mathlib.Core.Path.{refl}
+-- `fill` meets its contract: the courses of the lists passed are laid. Assumes nothing.
 use native.Mathlib.Omega.{arith}
 use Rattle.multiway_sweep.proofs.Filled.{laid_none, laid_within, laid_empty, laid_push, filled}
-use Rattle.multiway_sweep.proofs.Sweep.new.Goals as goal
-use Rattle.multiway_sweep.proofs.Sweep.new.Goals.{then-from-stop, else-from-stop}
+use Rattle.multiway_sweep.proofs.fill.Goals as goal
+use Rattle.multiway_sweep.proofs.fill.Goals.{then-from-stop, else-from-stop}
 
 pub loop-k-init : goal.loop-k-init
-loop-k-init g c = laid_none _ _ c.requires.0 c.requires.1 refl c.new-starts.ensures
+loop-k-init g c = laid_none _ _ c.requires.fits.0 c.requires.fits.1 c.told-courses c.requires.empty
 
 pub overflow_add-stop : goal.overflow_add-stop
 overflow_add-stop g c = let l = laid_within _ _ c.loop-k.invariant c.loop-k-test.true in omega arith
@@ -22,4 +21,4 @@ loop-k-preserved g c =
     ]
 
 pub returns : goal.returns
-returns g c = filled _ c.loop-k.invariant c.loop-k-test.false c.new.ensures
+returns g c idle empty = filled _ c.loop-k.invariant c.loop-k-test.false empty
