@@ -139,8 +139,8 @@ pub fn pass<P: Integer>(
     let mut courses = NO_COURSES;
     let mut starts = Heap::new();
     let mut active_ends = Heap::new();
-    let lists = SweepMut::new(lent, &mut courses, &mut starts, &mut active_ends);
-    let mut sweep = JoinSweep::new(lent, lists);
+    let events = SweepMut::new(lent, &mut courses, &mut starts, &mut active_ends);
+    let mut sweep = JoinSweep::new(lent, events);
     let mut pending = None;
     let mut count: usize = 0;
     while let Some(range) = sweep.next_stretch(lent) {
