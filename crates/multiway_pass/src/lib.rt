@@ -14,6 +14,7 @@ ghost use Rattle.many_way_rules.specs.Selections.{admitted};
 ghost use Rattle.many_way_rules.specs.Operations.{rule_of, merged};
 ghost use Rattle.many_way_rules.specs.declared.Operation.TheVariants.{Join};
 ghost use Rattle.slots.specs.Slots.{active, Counted, slots_of};
+ghost use Rattle.join_sweep.specs.Stretches.{places};
 ghost use Rattle.multiway_pass.specs.Pieces.{Present, piece_of, waiting, PushedOn};
 ghost use Rattle.multiway_pass.specs.Passes.{Puttable, PutPieces, Mergeable};
 
@@ -66,6 +67,27 @@ pub fn rule_on(
         return None;
     }
     combine(combiner, lists, current, present)
+}
+
+// The same of the stretch on which a join's sweep stands.
+fn rule_of_stretch(
+    admission: Admission,
+    combiner: u8,
+    lists: usize,
+    sweep: &JoinSweep,
+) -> Option<i64>
+    requires { Counted lists sweep.now.active_count (places sweep.now) }
+    ensures { result ≡ rule_of (Join admission combiner) (active lists (places sweep.now)) }
+{
+    let count = sweep.active_count;
+    rule_on(
+        admission,
+        combiner,
+        lists,
+        count,
+        &sweep.current,
+        &sweep.present,
+    )
 }
 
 // Whether a piece touches the next and has its value. The next starts later, so one can be added to its end.
@@ -144,14 +166,7 @@ pub fn pass<P: Integer>(
     let mut pending = None;
     let mut count: usize = 0;
     while let Some(range) = sweep.next_stretch(lent) {
-        let value = rule_on(
-            admission,
-            combiner,
-            lent.counts.len(),
-            sweep.active_count,
-            &sweep.current,
-            &sweep.present,
-        );
+        let value = rule_of_stretch(admission, combiner, lent.counts.len(), &sweep);
         if let Some(value) = value {
             let next = Piece {
                 start: range.start,

@@ -15,8 +15,8 @@ pub loop-range-init : goal.loop-range-init
 loop-range-init g c = (joining_first (lists_formed c.requires.formed) (lists_few c.requires.formed) c.new-sweep.ensures, rw c.new-sweep.ensures.first (going_first (walkable c.requires)))
 
 -- what the join says of the stretch
-pub rule_on-value-requires : goal.rule_on-value-requires
-rule_on-value-requires g c =
+pub rule_of_stretch-value-requires : goal.rule_of_stretch-value-requires
+rule_of_stretch-value-requires g c =
     let t = finds_next g.P.Integer.width _ _ _ _ c.in-Some.is (c.next_stretch.ensures _ c.loop-range.invariant.0) in
     lists_counted c.requires.formed t.joining.counted
 
@@ -30,7 +30,7 @@ push_merged-pushed-requires g c =
 pub put-count-requires : goal.put-count-requires
 put-count-requires g c =
     let t = finds_next g.P.Integer.width _ _ _ _ c.in-Some.is (c.next_stretch.ensures _ c.loop-range.invariant.0) in
-    turn_puttable c.loop-range.invariant.1 t.stretch c.push_merged-pushed.ensures refl refl (says c.requires _ t.stretch _ c.rule_on-value.ensures (c.in-Some-value.is ∙ ap Some (sym (back w64 _ (omega arith)))))
+    turn_puttable c.loop-range.invariant.1 t.stretch c.push_merged-pushed.ensures refl refl (says c.requires _ t.stretch _ c.rule_of_stretch-value.ensures (c.in-Some-value.is ∙ ap Some (sym (back w64 _ (omega arith)))))
 
 -- fewer points are left
 pub loop-range-smaller-in-Some-value : goal.loop-range-smaller-in-Some-value
@@ -42,7 +42,7 @@ loop-range-smaller-in-Some-value g c =
 pub loop-range-preserved-in-Some-value : goal.loop-range-preserved-in-Some-value
 loop-range-preserved-in-Some-value g c =
     let t = finds_next g.P.Integer.width _ _ _ _ c.in-Some.is (c.next_stretch.ensures _ c.loop-range.invariant.0) in
-    (t.joining, rw t.after_it (turn_more c.loop-range.invariant.1 t.stretch c.push_merged-pushed.ensures refl refl (says c.requires _ t.stretch _ c.rule_on-value.ensures (c.in-Some-value.is ∙ ap Some (sym (back w64 _ (omega arith))))) c.put-count.ensures))
+    (t.joining, rw t.after_it (turn_more c.loop-range.invariant.1 t.stretch c.push_merged-pushed.ensures refl refl (says c.requires _ t.stretch _ c.rule_of_stretch-value.ensures (c.in-Some-value.is ∙ ap Some (sym (back w64 _ (omega arith))))) c.put-count.ensures))
 
 -- it is not admitted: fewer points are left, and the walk goes on
 pub loop-range-smaller : goal.loop-range-smaller
@@ -53,7 +53,7 @@ loop-range-smaller g c =
 pub loop-range-preserved : goal.loop-range-preserved
 loop-range-preserved g c =
     let t = finds_next g.P.Integer.width _ _ _ _ c.in-Some.is (c.next_stretch.ensures _ c.loop-range.invariant.0) in
-    (t.joining, rw t.after_it (turn_silent c.loop-range.invariant.1 t.stretch (says c.requires _ t.stretch _ c.rule_on-value.ensures c.in_default-value.is)))
+    (t.joining, rw t.after_it (turn_silent c.loop-range.invariant.1 t.stretch (says c.requires _ t.stretch _ c.rule_of_stretch-value.ensures c.in_default-value.is)))
 
 -- none is left: what is pending is put
 pub put-requires : goal.put-requires
