@@ -16,7 +16,7 @@ const HEAD: u8 = 0x48;
 
 const HEAD_SIZE: usize = 6;
 
-// What a head asks for, with its operation and combiner, and how many lists follow.
+// What a head asks for, with its operation and combiner as the file gives them and a text prints them, and how many lists follow.
 #[derive(Clone, Copy, Debug, PartialEq, Eq)]
 pub struct Head {
     pub task: Task,

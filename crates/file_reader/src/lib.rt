@@ -18,14 +18,15 @@ const LIST: u8 = 0x4C;
 
 const LIST_SIZE: usize = 4;
 
-// What a file holds: its head, and how many ranges there are.
+// What a file holds: its head, and how many ranges there are. The columns have a fixed room, as there is no heap.
 #[derive(Clone, Copy, Debug, PartialEq, Eq)]
 pub struct Contents {
     pub head: Head,
     pub ranges: usize,
 }
 
-// A list that comes after so many ranges, into the columns from there on: what is left behind it, and its count.
+// A list that comes after so many ranges, into the columns from there on: what is left behind it, and its count. The columns stay
+// apart: a struct that holds them as `&mut` can not be lent on in a loop.
 fn read_list<'a>(
     from: Rest<'a>,
     prior: usize,

@@ -48,7 +48,7 @@ fn read_range<'a>(
     Ok(rest)
 }
 
-// So many ranges, into the columns from a place on.
+// So many ranges, into the columns from a place on: the columns have a fixed room, as there is no heap.
 pub fn read_ranges<'a>(
     from: Rest<'a>,
     n: usize,

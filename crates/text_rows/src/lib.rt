@@ -18,7 +18,7 @@ use text_fields::table::{Table, after_rows, put_rows};
 use text_fields::{Field, Writer, after_line};
 use text_pairs::Pairs;
 
-// What the first line of an answer tells.
+// What the first line of an answer tells: the numbers that the head of a file gives, and of the rows, how many count.
 #[derive(Clone, Copy)]
 pub struct Header {
     pub operation: u8,

@@ -18,16 +18,16 @@ pub print_paired-requires : goal.print_paired-requires
 print_paired-requires c =
     let m = c.join_lists-answer in
     let few = paired_few c.args.how (held c.args.lent) (columns m.new.out_start m.new.out_end m.new.out_left m.new.out_right m.new.out_presence) c.in-Ok.ensures in
-    omega (arith, few, length-replicate 4095 (pos 0), length-replicate {A = ℕ} 4095 0, m.auto.out_start, m.auto.out_end, m.auto.out_left, m.auto.out_right, m.auto.out_presence)
+    rw c.header.ensures (omega (arith, few, length-replicate 4095 (pos 0), length-replicate {A = ℕ} 4095 0, m.auto.out_start, m.auto.out_end, m.auto.out_left, m.auto.out_right, m.auto.out_presence))
 
 pub returns-in-Ok : goal.returns-in-Ok
 returns-in-Ok c =
     let m = c.join_lists-answer in
-    c.print_paired.ensures
-    ∙ ap (λ (u : List ℕ). attempt u c.args.text.now) (sym (paired_done c.args.how (held c.args.lent) (columns m.new.out_start m.new.out_end m.new.out_left m.new.out_right m.new.out_presence) (head c.args.operation c.args.combiner) c.in-Ok.ensures))
+    (rw c.header.ensures at c.print_paired.ensures)
+    ∙ ap (λ (u : List ℕ). attempt u c.args.text.now) (sym (paired_done c.args.how (held c.args.lent) (columns m.new.out_start m.new.out_end m.new.out_left m.new.out_right m.new.out_presence) (head c.args.head.operation c.args.head.combiner) c.in-Ok.ensures))
 
 pub returns-in-Err : goal.returns-in-Err
 returns-in-Err c =
     let m = c.join_lists-answer in
     c.print_refusal.ensures
-    ∙ ap (λ (u : List ℕ). attempt u c.args.text.now) ((λ i. refusal_text (c.code.ensures i) (c.number.ensures i)) ∙ sym (paired_refused c.args.how (held c.args.lent) (columns m.new.out_start m.new.out_end m.new.out_left m.new.out_right m.new.out_presence) (head c.args.operation c.args.combiner) c.in-Err.ensures))
+    ∙ ap (λ (u : List ℕ). attempt u c.args.text.now) ((λ i. refusal_text (c.code.ensures i) (c.number.ensures i)) ∙ sym (paired_refused c.args.how (held c.args.lent) (columns m.new.out_start m.new.out_end m.new.out_left m.new.out_right m.new.out_presence) (head c.args.head.operation c.args.head.combiner) c.in-Err.ensures))
