@@ -9,7 +9,7 @@ ghost use Rattle.file_reader.specs.Fills.{Fills, Counted, Gathered};
 ghost use Rattle.file_reader.specs.Holds.{Holds};
 
 use file_head::{Head, head_at};
-use file_records::{Rest, number_at, read_ranges};
+use file_records::{Rest, big_endian, read_ranges};
 use rules::MAX_RANGES;
 use tariff_file::{MAX_BYTES, Refusal};
 
@@ -38,7 +38,7 @@ fn read_list<'a>(
     ensures { Fills (read_list prior) from.entry (Counted prior (before starts ends values) (after starts ends values)) result }
 {
     let ranges = from.record_at(LIST, LIST_SIZE)?;
-    let count = number_at(from.bytes, 2, 2) as usize;
+    let count = big_endian(&from.bytes[2..4]) as usize;
     let left = MAX_RANGES - prior;
     if left < count {
         return Err(Refusal::TooManyRanges(from.at));
