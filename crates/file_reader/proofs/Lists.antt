@@ -81,7 +81,9 @@ module _ (n : ℕ) (from : Rest) (b : Merged ℤ) (d : List ℕ) where
             long = ap length s ∙ length-append (flat g.done) f.value ∙ omega (arith, g.gathered.long, f.put.long);
             few = f.put.few;
             took = rw s (took_more 0 (flat g.done) f.value prior b c c' g.gathered.long g.gathered.took (rw z f.put.took));
-            counts = laid_more length 0 g.done (f.value ∷ []) i d e (set e i m) g.gathered.many g.gathered.counts (rw w (laid_one length i f.value e m (omega arith) (sym f.put.long)));
+            counts =
+                laid_more length 0 g.done (f.value ∷ []) i d e (set e i m) g.gathered.many g.gathered.counts
+                (rw w (laid_one length i f.value e m (omega arith) (sym f.put.long)));
           };
         }
 

@@ -7,6 +7,7 @@ use Rattle.std.specs.Int.{w32, w64}
 use Rattle.std.proofs.lemmas.Int.{to_z-of_z}
 use Rattle.std.proofs.lemmas.Result.{err_from_is_err_and}
 use borrow.Author.Rules.{rules}
+use Rattle.rules.specs.Merged.{columns}
 use Rattle.file_records.proofs.Numbers.{signed_at}
 use Rattle.file_records.proofs.Ranges.{range_stops, range_put}
 use Rattle.file_records.proofs.read_range.Goals as goal
@@ -17,8 +18,12 @@ returns-in_err-rest c =
 
 pub returns : goal.returns
 returns c =
-    let long : 22 ≤ length c.args.from.bytes.now = c.in_ok-rest.ensures.long in
-    range_put c.args.from c.in_ok-rest.rest c.in_ok-rest.ensures.marked (record { start = c.args.starts.now; end = c.args.ends.now; value = c.args.values.now }) c.args.place c.requires _ _ _
-    (to_z-of_z w64 c.cast_signed.result (search rules) ∙ c.cast_signed.ensures ∙ signed_at w64 8 2 c.args.from.bytes.now _ refl refl refl (omega arith) c.big_endian.ensures.0 c.big_endian.ensures.1)
-    (to_z-of_z w64 c.cast_signed-2.result (search rules) ∙ c.cast_signed-2.ensures ∙ signed_at w64 8 10 c.args.from.bytes.now _ refl refl refl (omega arith) c.big_endian-2.ensures.0 c.big_endian-2.ensures.1)
-    (to_z-of_z w32 c.cast_signed-3.result (search rules) ∙ c.cast_signed-3.ensures ∙ signed_at w32 4 18 c.args.from.bytes.now _ refl refl refl (omega arith) c.big_endian-3.ensures.0 c.big_endian-3.ensures.1)
+    let b = c.args.from.bytes.now in
+    let long : 22 ≤ length b = c.in_ok-rest.ensures.long in
+    let start = signed_at w64 8 2 b _ refl refl refl (omega arith) c.big_endian.ensures.0 c.big_endian.ensures.1 in
+    let end = signed_at w64 8 10 b _ refl refl refl (omega arith) c.big_endian-2.ensures.0 c.big_endian-2.ensures.1 in
+    let value = signed_at w32 4 18 b _ refl refl refl (omega arith) c.big_endian-3.ensures.0 c.big_endian-3.ensures.1 in
+    range_put c.args.from c.in_ok-rest.rest c.in_ok-rest.ensures.marked (columns c.args.starts.now c.args.ends.now c.args.values.now) c.args.place c.requires _ _ _
+    (to_z-of_z w64 c.cast_signed.result (search rules) ∙ c.cast_signed.ensures ∙ start)
+    (to_z-of_z w64 c.cast_signed-2.result (search rules) ∙ c.cast_signed-2.ensures ∙ end)
+    (to_z-of_z w32 c.cast_signed-3.result (search rules) ∙ c.cast_signed-3.ensures ∙ value)
