@@ -6,7 +6,7 @@ ghost use Rattle.std.specs.Prelude.{◌≡◌};
 ghost use Rattle.tariff_file.specs.File.{lists_right, combiner_right};
 ghost use Rattle.file_head.specs.Heads.{Judges, Opens};
 
-use file_records::{Rest, number_at};
+use file_records::{Rest, big_endian};
 use many_way_rules::known;
 use rules::MAX_LISTS;
 use tariff_file::{Refusal, Task};
@@ -16,7 +16,7 @@ const HEAD: u8 = 0x48;
 
 const HEAD_SIZE: usize = 6;
 
-// What a head asks for, with its operation and combiner, and how many lists follow.
+// What a head asks for, its operation and combiner as the numbers that the file gives and a text prints, and how many lists follow.
 #[derive(Clone, Copy, Debug, PartialEq, Eq)]
 pub struct Head {
     pub task: Task,
@@ -71,7 +71,7 @@ pub fn head_at(file: &[u8]) -> Result<(Head, Rest<'_>), Refusal>
     let rest = Rest { at: 0, bytes: file }.record_at(HEAD, HEAD_SIZE)?;
     let operation = file[2];
     let combiner = file[3];
-    let lists = number_at(file, 4, 2) as usize;
+    let lists = big_endian(&file[4..6]) as usize;
     let task = judge_head(operation, combiner, lists)?;
     Ok((
         Head {

@@ -5,12 +5,11 @@ use mathlib.Core.List.{List, [], ◌∷◌, ◌++◌, append_assoc, append-nil}
 use native.Mathlib.Omega.{arith}
 use lib.Dec.{leb}
 use lib.IntN.{ℤ}
-use lib.ListN.{length, take, drop, set, length-append, length-set}
+use lib.ListN.{length, take, drop, set, length-append}
 use borrow.Author.Tests.{le-leb, lt-leb}
 use Rattle.std.specs.declared.option.Option.TheVariants.{None, Some}
 use Rattle.std.specs.declared.result.Result.TheVariants.{Ok, Err}
-use Rattle.rules.specs.Merged.{Merged, lengths}
-use Rattle.rules.specs.Proving.Long.{Long}
+use Rattle.rules.specs.Merged.{Merged}
 use Rattle.many_way_rules.specs.Sheet.{Tariff, flat}
 use Rattle.tariff_file.specs.Layout.{number, field_value, values, Held}
 use Rattle.tariff_file.specs.Reader.{stop, got, Fault, judged, follow}
@@ -20,8 +19,8 @@ use Rattle.tariff_file.specs.declared.Refusal.TheVariants.{TooManyRanges}
 use Rattle.file_records.specs.Ends.{reads, Got, Marked}
 use Rattle.file_records.specs.Columns.{Took}
 use Rattle.file_records.specs.declared.rest.Rest.{Rest}
-use Rattle.file_records.proofs.Columns.{laid_none, laid_one, laid_more, took_none, took_more, long_same, long_on}
-use Rattle.file_records.proofs.Turns.{Going, going_first, going_more, going_stops, going_last}
+use Rattle.file_records.proofs.Columns.{laid_one, laid_more, took_more}
+use Rattle.file_records.proofs.Turns.{Going, going_more, going_stops, going_last}
 use Rattle.file_reader.specs.Fills.{Counted, Gathered}
 
 module _ (from : Rest) (prior : ℕ) where
@@ -62,27 +61,15 @@ module _ (n : ℕ) (from : Rest) (b : Merged ℤ) (d : List ℕ) where
     pub done : List (Tariff ℤ)
     pub going : Going read_list so_far n 0 from i done prior rest
     pub gathered : Gathered i b c d e prior done
-    pub long : Long (lengths c) (lengths b)
-    pub counts_long : length e ≡ length d
-
-  pub filling_first : Filling b d from 0 0
-  filling_first =
-      record {
-        done = [];
-        going = going_first read_list so_far n 0 from;
-        gathered = record { many = refl; long = refl; few = omega arith; took = took_none 0 b; counts = laid_none {R = Tariff ℤ} length 0 d };
-        long = long_same b;
-        counts_long = refl;
-      }
 
   module _ (c : Merged ℤ) (e : List ℕ) (rest : Rest) (prior i : ℕ) (g : Filling c e rest prior i) where
     pub filling_stops : i < n → {x : Refusal} → reads (read_list prior) rest ≡ stop x → reads (read_lists n 0) from ≡ stop x
     unfolding read_lists
     filling_stops more {x} h = going_stops read_list so_far n 0 from g.going more x h
 
-    pub filling_more : i < n → n ≤ length d → (c' : Merged ℤ) (past : Rest) (m : ℕ) → Got (read_list prior) rest (Counted prior c c' m) past → Long (lengths c') (lengths c) →
+    pub filling_more : i < n → n ≤ length e → (c' : Merged ℤ) (past : Rest) (m : ℕ) → Got (read_list prior) rest (Counted prior c c' m) past →
         Filling c' (set e i m) past (prior + m) (i + 1)
-    filling_more more room c' past m f l =
+    filling_more more room c' past m f =
         let z : 0 + prior ≡ prior = omega arith in
         let w : 0 + i ≡ i = omega arith in
         let s = flat_snoc g.done f.value in
@@ -94,10 +81,10 @@ module _ (n : ℕ) (from : Rest) (b : Merged ℤ) (d : List ℕ) where
             long = ap length s ∙ length-append (flat g.done) f.value ∙ omega (arith, g.gathered.long, f.put.long);
             few = f.put.few;
             took = rw s (took_more 0 (flat g.done) f.value prior b c c' g.gathered.long g.gathered.took (rw z f.put.took));
-            counts = laid_more length 0 g.done (f.value ∷ []) i d e (set e i m) g.gathered.many g.gathered.counts (rw w (laid_one length i f.value e m (omega (arith, g.counts_long)) (sym f.put.long)));
+            counts =
+                laid_more length 0 g.done (f.value ∷ []) i d e (set e i m) g.gathered.many g.gathered.counts
+                (rw w (laid_one length i f.value e m (omega arith) (sym f.put.long)));
           };
-          long = long_on b c c' l g.long;
-          counts_long = length-set e i m ∙ g.counts_long;
         }
 
     pub filling_last : n ≤ i → Got (read_lists n 0) from (Gathered n b c d e prior) rest

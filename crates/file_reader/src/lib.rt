@@ -9,7 +9,7 @@ ghost use Rattle.file_reader.specs.Fills.{Fills, Counted, Gathered};
 ghost use Rattle.file_reader.specs.Holds.{Holds};
 
 use file_head::{Head, head_at};
-use file_records::{Rest, number_at, read_ranges};
+use file_records::{Rest, big_endian, read_ranges};
 use rules::MAX_RANGES;
 use tariff_file::{MAX_BYTES, Refusal};
 
@@ -18,14 +18,15 @@ const LIST: u8 = 0x4C;
 
 const LIST_SIZE: usize = 4;
 
-// What a file holds: its head, and how many ranges there are.
+// What a file holds: its head, and how many ranges there are. The columns have a fixed room, as there is no heap.
 #[derive(Clone, Copy, Debug, PartialEq, Eq)]
 pub struct Contents {
     pub head: Head,
     pub ranges: usize,
 }
 
-// A list that comes after so many ranges, into the columns from there on: what is left behind it, and its count.
+// A list that comes after so many ranges, into the columns from there on: what is left behind it, and its count. The columns stay
+// apart: a struct that holds them as `&mut` can not be lent on in a loop.
 fn read_list<'a>(
     from: Rest<'a>,
     prior: usize,
@@ -37,7 +38,7 @@ fn read_list<'a>(
     ensures { Fills (read_list prior) from.entry (Counted prior (before starts ends values) (after starts ends values)) result }
 {
     let ranges = from.record_at(LIST, LIST_SIZE)?;
-    let count = number_at(from.bytes, 2, 2) as usize;
+    let count = big_endian(&from.bytes[2..4]) as usize;
     let left = MAX_RANGES - prior;
     if left < count {
         return Err(Refusal::TooManyRanges(from.at));

@@ -6,8 +6,8 @@ use mathlib.Core.List.{List, ◌++◌, append-nil}
 use native.Mathlib.Omega.{arith}
 use lib.Dec.{ltb}
 use lib.IntN.{pos, negsuc}
-use lib.ListN.{length, get_or, drop, replicate, length-drop}
-use lib.Seq.{drop-cons}
+use lib.ListN.{length, get_or, take, drop, replicate, length-drop}
+use lib.Seq.{drop-cons, length-take-le}
 use Rattle.std.proofs.lemmas.List.{drop-replicate, drop_all, length-append, length-replicate, take-replicate}
 use Rattle.std.proofs.Math.Facts.{to_z_pos, to_z-neg}
 use Rattle.std.specs.Int.{w64, from_be_bytes, cast_signed}
@@ -45,7 +45,7 @@ number_padded b k h l =
     ap (from_be_bytes w64) shape ∙ number_eight (z ++ b) (omega (arith, length-append z b, length-replicate {A = ℕ} (8 - k) 0)) ∙ number_zeros (8 - k) b
 
 -- a width of k bytes
-pub signed_is : (w : Width) (k n : ℕ) → 256 ^ k ≡ 2 ^ bits w → half k ≡ 2 ^ hbits w → 256 ^ k ≡ half k + half k → n < 256 ^ k → cast_signed w n ≡ integer k n
+signed_is : (w : Width) (k n : ℕ) → 256 ^ k ≡ 2 ^ bits w → half k ≡ 2 ^ hbits w → 256 ^ k ≡ half k + half k → n < 256 ^ k → cast_signed w n ≡ integer k n
 unfolding integer
 signed_is w k n whole low two h = go (ltb n (half k)) refl
   where
@@ -55,3 +55,10 @@ signed_is w k n whole low two h = go (ltb n (half k)) refl
         let j = 256 ^ k - suc n in
         let z : n ≡ 2 ^ bits w - suc j = omega (arith, ltb-false n (half k) e) in
         ap (cast_signed w) z ∙ to_z-neg w j (omega (arith, ltb-false n (half k) e))
+
+-- that of a width whose bytes stand from place i on
+pub signed_at : (w : Width) (k i : ℕ) (b : List ℕ) (n : ℕ) → 256 ^ k ≡ 2 ^ bits w → half k ≡ 2 ^ hbits w → 256 ^ k ≡ half k + half k → i + k ≤ length b →
+    n ≡ number (take k (drop i b)) → n < 256 ^ length (take k (drop i b)) → cast_signed w n ≡ integer k (number (take k (drop i b)))
+signed_at w k i b n whole low two h e l =
+    let f : length (take k (drop i b)) ≡ k = length-take-le k (drop i b) (omega (arith, length-drop i b)) in
+    signed_is w k n whole low two (rw f at l) ∙ ap (integer k) e

@@ -8,8 +8,7 @@ use lib.ListN.{length, take, drop, set}
 use lib.Seq.{drop-drop}
 use Rattle.std.specs.declared.option.Option.TheVariants.{None}
 use Rattle.std.specs.declared.result.Result.TheVariants.{Ok, Err}
-use Rattle.rules.specs.Merged.{Merged, lengths, room}
-use Rattle.rules.specs.Proving.Long.{Long}
+use Rattle.rules.specs.Merged.{Merged, room}
 use Rattle.many_way_rules.specs.Sheet.{Typed, Tariff}
 use Rattle.tariff_file.specs.Layout.{number, integer, field_value, values}
 use Rattle.tariff_file.specs.Reader.{stop, got, Reader, follow}
@@ -18,8 +17,8 @@ use Rattle.tariff_file.specs.declared.Refusal.{Refusal}
 use Rattle.file_records.specs.Ends.{reads, Got, Marked}
 use Rattle.file_records.specs.declared.rest.Rest.{Rest}
 use Rattle.file_records.specs.Columns.{Took}
-use Rattle.file_records.proofs.Columns.{took_none, took_one, took_more, long_same, long_on}
-use Rattle.file_records.proofs.Turns.{Going, going_first, going_more, going_stops, going_last}
+use Rattle.file_records.proofs.Columns.{took_one, took_more}
+use Rattle.file_records.proofs.Turns.{Going, going_more, going_stops, going_last}
 
 module _ (from : Rest) where
   -- the three fields
@@ -60,19 +59,14 @@ module _ (n : ℕ) (from : Rest) (m : ℕ) (b : Merged ℤ) where
     pub done : Tariff ℤ
     pub going : Going each on n tt from i done tt rest
     pub took : Took m b c done
-    pub long : Long (lengths c) (lengths b)
-
-  pub reading_first : Reading b from 0
-  reading_first = record { done = []; going = going_first each on n tt from; took = took_none m b; long = long_same b }
 
   module _ (c : Merged ℤ) (rest : Rest) (i : ℕ) (g : Reading c rest i) where
-    pub reading_more : i < n → (d : Merged ℤ) (past : Rest) → Got read_range rest (λ x. Took (m + i) c d (x ∷ [])) past → Long (lengths d) (lengths c) → Reading d past (i + 1)
-    reading_more more d past h l =
+    pub reading_more : i < n → (d : Merged ℤ) (past : Rest) → Got read_range rest (λ x. Took (m + i) c d (x ∷ [])) past → Reading d past (i + 1)
+    reading_more more d past h =
         record {
           done = g.done ++ (h.value ∷ []);
           going = going_more each on n tt from g.going more h.value past h.read;
           took = took_more m g.done (h.value ∷ []) i b c d g.going.long g.took h.put;
-          long = long_on b c d l g.long;
         }
 
     pub reading_stops : i < n → (x : Refusal) → reads read_range rest ≡ stop x → reads (read_ranges n) from ≡ stop x

@@ -2,7 +2,7 @@
 
 #![tactic(auto)]
 
-ghost use Rattle.std.specs.Prelude.{◌+◌, ◌^◌, ◌≤◌, ◌<◌, ◌≡◌, [], ◌∷◌, length, take, drop};
+ghost use Rattle.std.specs.Prelude.{◌+◌, ◌^◌, ◌≤◌, ◌<◌, ◌≡◌, [], ◌∷◌, length};
 ghost use Rattle.rules.specs.Merged.{output, before, after, room};
 ghost use Rattle.tariff_file.specs.Layout.{number};
 ghost use Rattle.tariff_file.specs.File.{read_range, read_ranges};
@@ -19,13 +19,13 @@ const RANGE: u8 = 0x52;
 
 const RANGE_SIZE: usize = 22;
 
-// The number that k bytes write, big-endian.
-pub fn number_at(bytes: &[u8], at: usize, k: usize) -> u64
-    requires { (at + k ≤ length bytes.now) × (k ≤ 8) }
-    ensures { (result ≡ number (take k (drop at bytes.now))) × (result < 256 ^ k) }
+// The number that bytes write, big-endian.
+pub fn big_endian(bytes: &[u8]) -> u64
+    requires { length bytes.now ≤ 8 }
+    ensures { (result ≡ number bytes.now) × (result < 256 ^ length bytes.now) }
 {
     let mut padded = [0; 8];
-    padded[8 - k..].copy_from_slice(&bytes[at..at + k]);
+    padded[8 - bytes.len()..].copy_from_slice(bytes);
     u64::from_be_bytes(padded)
 }
 
@@ -42,13 +42,13 @@ fn read_range<'a>(
         Ends read_range from.entry (λ x. took (x ∷ [])) result }
 {
     let rest = from.record_at(RANGE, RANGE_SIZE)?;
-    starts[place] = number_at(from.bytes, 2, 8).cast_signed();
-    ends[place] = number_at(from.bytes, 10, 8).cast_signed();
-    values[place] = (number_at(from.bytes, 18, 4) as u32).cast_signed();
+    starts[place] = big_endian(&from.bytes[2..10]).cast_signed();
+    ends[place] = big_endian(&from.bytes[10..18]).cast_signed();
+    values[place] = (big_endian(&from.bytes[18..22]) as u32).cast_signed();
     Ok(rest)
 }
 
-// So many ranges, into the columns from a place on.
+// So many ranges, into the columns from a place on: the columns have a fixed room, as there is no heap.
 pub fn read_ranges<'a>(
     from: Rest<'a>,
     n: usize,

@@ -13,7 +13,7 @@ use rules::Lists;
 use text_rows::print_refusal;
 
 // Joins a tariff file, and puts the printed text at the front of the buffer. It answers the text's length; where the text does not
-// fit, it answers 0 and leaves the buffer as it was.
+// fit, it answers 0, as the C interface asks, and leaves the buffer as it was. The columns have a fixed room, as there is no heap.
 pub fn join_file(file: &[u8], text: &mut [u8]) -> usize
     ensures text_after { leaves result text.new ≡ print (printed file.now) text.old }
     ensures prefix_len { IsPrefixLen result text.new }
@@ -34,7 +34,7 @@ pub fn join_file(file: &[u8], text: &mut [u8]) -> usize
                 values: &values[..ranges],
                 counts: &counts[..lists],
             };
-            perform(head.task, head.operation, head.combiner, lent, text)
+            perform(head, lent, text)
         }
         Err(refusal) => print_refusal(refusal.code(), refusal.number(), text),
     };

@@ -31,7 +31,8 @@ impl Turn<'_> {
     }
 }
 
-// How many files agree and how many do not, which is the first that does not, counted from 1, and whether the list is whole.
+// How many files agree and how many do not, which is the first that does not, counted from 1, and whether the list is whole, a flag
+// that stands beside no value.
 #[derive(Clone, Copy)]
 struct Tally {
     agree: usize,

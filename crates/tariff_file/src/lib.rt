@@ -61,6 +61,7 @@ pub enum Refusal {
     TooManyRanges(usize),
 }
 
+// The numbers that are printed for a refusal: a cast gives none of variants with fields.
 impl Refusal {
     pub fn code(self) -> u8
         ensures { result ≡ code_of self }

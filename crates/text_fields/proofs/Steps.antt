@@ -22,9 +22,6 @@ module _ (text : ℕ → List ℕ) (step : ℕ → List ℕ) (n : ℕ) (more : (
   within i l = let e : i + (n - i) ≡ n = omega arith in rw e at (grows (n - i) i (omega arith))
 
   -- the text so far and what is spare make up the room
-  pub spare_less : (i spare room : ℕ) → i < n → length (text i) + spare ≡ room → length (step i) ≤ spare → length (text (i + 1)) + (spare - length (step i)) ≡ room
-  spare_less i spare room l e h = omega (arith, longer i l)
-
   pub unfit : (i spare room : ℕ) → i < n → length (text i) + spare ≡ room → spare < length (step i) → room < length (text n)
   unfit i spare room l e h = omega (arith, longer i l, within (i + 1) (omega arith))
 

@@ -69,7 +69,7 @@ pub fn after_line(fields: &[Field], room: usize) -> Option<usize>
     Some(spare)
 }
 
-// A lent buffer, and the place up to which it is written.
+// A lent buffer, which has a fixed room, as there is no heap, and the place up to which it is written.
 #[derive(Drop)]
 pub struct Writer<'a> {
     pub out: &'a mut [u8],

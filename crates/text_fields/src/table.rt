@@ -9,7 +9,7 @@ ghost use Rattle.text_fields.specs.Writing.{Fits, Writes};
 
 use crate::{Field, Writer, after_line};
 
-// Rows of as many fields each, by their places.
+// Rows of as many fields each, by their places. How many of them count is told apart: columns have a fixed room, as there is no heap.
 pub trait Table<const N: usize> {
     // How many rows there are.
     ghost count: { Self → ℕ };

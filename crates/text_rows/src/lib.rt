@@ -18,7 +18,8 @@ use text_fields::table::{Table, after_rows, put_rows};
 use text_fields::{Field, Writer, after_line};
 use text_pairs::Pairs;
 
-// What the first line of an answer tells.
+// What the first line of an answer tells: operation and combiner as the numbers that a file gives, how many lists there are, and how
+// many rows count, as columns have a fixed room.
 #[derive(Clone, Copy)]
 pub struct Header {
     pub operation: u8,
@@ -101,7 +102,7 @@ pub fn print_paired(header: Header, pairs: Pairs, out: &mut [u8]) -> Option<usiz
     print_table(header, &pairs, out)
 }
 
-// Prints a refusal.
+// Prints a refusal. Two crates have their own: a trait for both would take four functions that hand on `code` and `number`.
 pub fn print_refusal(code: u8, number: usize, out: &mut [u8]) -> Option<usize>
     ensures { tries result out.new ≡ attempt (refusal_text code number) out.old }
 {

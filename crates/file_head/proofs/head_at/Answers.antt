@@ -9,9 +9,9 @@ pub returns-in_err-task : goal.returns-in_err-task
 returns-in_err-task c =
     let r = c.in_ok-rest.ensures in
     let p = err_from_is_err_and c.from_residual-in_err-task.result c.from_residual-in_err-task.ensures.1 in
-    rw (p.1, p.2) (head_refused _ c.in_ok-rest.rest (r.marked head_layout head_fault refl refl refl) r.long _ c.number_at-lists.ensures.0 c.in_err-task.ensures)
+    rw (p.1, p.2) (head_refused _ c.in_ok-rest.rest (r.marked head_layout head_fault refl refl refl) r.long _ c.big_endian-lists.ensures.0 c.in_err-task.ensures)
 
 pub returns : goal.returns
 returns c =
     let r = c.in_ok-rest.ensures in
-    head_opens _ c.in_ok-rest.rest (r.marked head_layout head_fault refl refl refl) r.long _ c.number_at-lists.ensures.0 c.in_ok-task.ensures
+    head_opens _ c.in_ok-rest.rest (r.marked head_layout head_fault refl refl refl) r.long _ c.big_endian-lists.ensures.0 c.in_ok-task.ensures

@@ -10,7 +10,7 @@ returns-in_err-past c =
 
 pub loop-count-preserved : goal.loop-count-preserved
 loop-count-preserved c =
-    filling_more _ _ _ _ _ _ _ _ _ c.loop-count.invariant c.loop-count-test.true (omega arith) _ _ _ c.in_ok-past.ensures (let k = c.read_list.auto in (k.starts, (k.ends, (k.values, tt))))
+    filling_more _ _ _ _ _ _ _ _ _ c.loop-count.invariant c.loop-count-test.true (omega arith) _ _ _ c.in_ok-past.ensures
 
 pub returns : goal.returns
 returns c = filling_last _ _ _ _ _ _ _ _ _ c.loop-count.invariant c.loop-count-test.false

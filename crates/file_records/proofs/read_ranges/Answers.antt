@@ -9,7 +9,7 @@ returns-in_err-rest c =
 
 pub loop-i-preserved : goal.loop-i-preserved
 loop-i-preserved c =
-    reading_more _ _ _ _ _ _ _ c.loop-i.invariant c.loop-i-test.true _ _ c.in_ok-rest.ensures (let k = c.read_range.auto in (k.starts, (k.ends, (k.values, tt))))
+    reading_more _ _ _ _ _ _ _ c.loop-i.invariant c.loop-i-test.true _ _ c.in_ok-rest.ensures
 
 pub returns : goal.returns
 returns c = reading_last _ _ _ _ _ _ _ c.loop-i.invariant c.loop-i-test.false
