@@ -1,23 +1,22 @@
 -- From the judgement of what is lent and the passes to the outcome of a many-way join or selection. Assumes nothing.
 use Prim.Native.Nat.{ℕ, pred, ◌+◌, ◌*◌, ◌-◌, ◌≤◌, ◌<◌}
-use mathlib.Core.Path.{◌≡◌, refl, sym, ap, ◌∙◌}
-use mathlib.Core.Bool.{Bool, true, false}
-use Rattle.std.specs.declared.option.Option.{Option}
+use mathlib.Core.Path.{◌≡◌, refl, sym, ap, subst, ◌∙◌}
+use mathlib.Core.Bool.{Bool, true}
 use Rattle.std.specs.declared.option.Option.TheVariants.{None, Some}
 use Rattle.std.specs.declared.result.Result.TheVariants.{Ok, Err}
 use mathlib.Core.List.{List, [], ◌∷◌}
 use native.Mathlib.Omega.{arith}
-use lib.Dec.{leb}
 use lib.IntN.{ℤ, pos}
 use lib.ListN.{length, get_or}
+use Rattle.std.proofs.Common.{MutBor}
 use borrow.Author.Tests.{le-leb, lt-leb}
 use Rattle.rules.specs.Piece.{Range}
-use Rattle.rules.specs.Lists.{Width, Lent, keys, cut, lists}
-use Rattle.rules.specs.Answer.{Answer, leaves}
+use Rattle.rules.specs.Lists.{Width, Lent, keys, cut, lists, held}
+use Rattle.rules.specs.Answer.{Answer, Outcome, leaves}
 use Rattle.rules.specs.Refusals.{Formed}
 use Rattle.rules.specs.Same.{eq_ℤ}
-use Rattle.rules.specs.Merged.{Merged, lengths, room, lay}
-use Rattle.rules.specs.Proving.Long.{Long}
+use Rattle.rules.specs.Merged.{Merged, columns, room, lay}
+use Rattle.rules.specs.declared.Lists.{Lists}
 use Rattle.rules.specs.declared.Refusal.{Refusal}
 use Rattle.rules.specs.declared.Refusal.TheVariants.{NoRoom}
 use Rattle.rules.specs.declared.Kind.{Kind}
@@ -25,27 +24,36 @@ use Rattle.rules.proofs.Columns.{lists_length, lists_size}
 use Rattle.rules.proofs.Refusals.{formed_sound, lists_formed}
 use Rattle.rules.proofs.Room.{runs_room}
 use Rattle.rules.proofs.Same.{decides_ℤ}
-use Rattle.passes.specs.Conclusion.{concluded}
-use Rattle.passes.proofs.Turns.{Turn, turn_first, turn_answered, turn_again}
+use Rattle.passes.specs.Runs.{Runnable, Ran}
+use Rattle.passes.proofs.Runs.{runnable, settled, known_last}
 use Rattle.form.specs.Shape.{Judged}
-use Rattle.many_way_rules.specs.Operations.{kind_of, rule_of, merged}
+use Rattle.many_way_rules.specs.Operations.{kind_of, rule_of, merged as all_merged}
 use Rattle.many_way_rules.specs.Outcomes.{merging}
 use Rattle.many_way_rules.specs.declared.Operation.{Operation}
 use Rattle.many_way_rules.proofs.Room.{merged_of_none}
 use Rattle.multiway_pass.specs.Passes.{lay_if, PutPieces, Mergeable}
 use Rattle.multiway_merge.specs.Zero.{of_none}
-use Rattle.multiway_pass.proofs.Columns.{if_nothing, if_keeps, merged_takes}
+use Rattle.multiway_pass.proofs.Columns.{if_nothing, merged_takes}
 use Rattle.multiway_pass.proofs.Merges.{nothing_there}
 
 -- all pieces
 abbrev pieces : {P : Type 0} → Width P → Operation → Lent P → List Range
-pieces w o l = merged o w.points (lists w l)
+pieces w o l = all_merged o w.points (lists w l)
 
--- before a pass over lists that the form checker passed nothing is written yet: the room, the columns at first, and now
-pub record Turns {P : Type 0} (w : Width P) (o : Operation) (l : Lent P) (space : ℕ) (c d : Merged P) (write : Bool) : Type 0 where
-  pub formed : Formed w (kind_of o) l
-  pub lists_some : 0 < length l.counts
-  pub turn : Turn (length (pieces w o l)) (room c) space c d write
+-- what the pass of an operation holds: the operation, the lists, and the columns
+abbrev pub Holds : Type 0 → Type 0
+Holds P = Operation × Lists P × MutBor (List P) × MutBor (List P) × MutBor (List ℤ)
+
+-- two of them lend the same columns on
+abbrev pub Alike : {P : Type 0} → Holds P → Holds P → Type 0
+Alike g f = (g.0 ≡ f.0) × (g.1 ≡ f.1) × (g.2.ghost_name ≡ f.2.ghost_name) × (g.3.ghost_name ≡ f.3.ghost_name) × (g.4.ghost_name ≡ f.4.ghost_name)
+
+abbrev pub columns_of : {P : Type 0} → Holds P → Merged P
+columns_of f = columns f.2.now f.3.now f.4.now
+
+-- what is said of the columns that it holds is said of those that are lent
+pub said : {P : Type 0} (g : Holds P) {a : Answer} {x : Outcome (Merged P)} → leaves a (columns_of g) ≡ x → {i j k : ℕ} → (g.2.ghost_name ≡ i) × (g.3.ghost_name ≡ j) × (g.4.ghost_name ≡ k) → {s e : List P} {v : List ℤ} → (i ≡ g.2.ghost_name → s ≡ g.2.now) → (j ≡ g.3.ghost_name → e ≡ g.3.now) → (k ≡ g.4.ghost_name → v ≡ g.4.now) → leaves a (columns s e v) ≡ x
+said g h t s e v = rw (s (sym t.0), e (sym t.1), v (sym t.2)) h
 
 -- over no counts there are no lists
 no_lists : {P : Type 0} (w : Width P) (l : Lent P) → length l.counts ≡ 0 → lists w l ≡ []
@@ -74,37 +82,34 @@ module _ {P : Type 0} {w : Width P} {l : Lent P} {k : Kind} (o : Operation) (e :
     module _ (there : 0 < length l.counts) where
       -- as many as there can be
       most_enough : length (pieces w o l) ≤ 2 * length l.starts - 1
-      unfolding merged
+      unfolding all_merged
       most_enough = omega (arith, runs_room eq_ℤ (rule_of o) w.points (lists w l) decides_ℤ (lists_formed formed) (nothing_there o (lists w l) (omega (arith, lists_length w l))), lists_size w l, formed.agree.adds_up)
 
-      -- where there is sure to be room the first pass writes
-      pub turns_first : {c : Merged P} {most space : ℕ} → most ≡ 2 * length l.starts - 1 → space ≡ room c → Turns w o l space c c (leb most space)
-      turns_first q h = record { formed = formed; lists_some = there; turn = turn_first (omega (arith, q, most_enough)) h }
+      module _ {Step : Holds P → Bool → ℕ → Holds P → Type 0} (steps : (f : Holds P) (b : Bool) (n : ℕ) (g : Holds P) → Step f b n g → Alike g f × PutPieces (lay w) b 0 (pieces w f.0 (held f.1)) (columns_of f) (columns_of g) n) (f : Holds P) (is : f.0 ≡ o) (lent : held f.1 ≡ l) {space : ℕ} (q : space ≡ room (columns_of f)) where
+        abbrev done : Bool → Merged P → Merged P
+        done b = lay_if (lay w) b 0 (pieces w o l)
 
-module _ {P : Type 0} {w : Width P} {o : Operation} {l : Lent P} {space : ℕ} {c d : Merged P} {write : Bool} (i : Turns w o l space c d write) where
-  pub turns_mergeable : Mergeable w o l write d
-  turns_mergeable = rw i.turn.kept (record { formed = i.formed; lists_some = i.lists_some; roomy = i.turn.enough })
+        told : (h : Holds P) (b : Bool) (n : ℕ) (g : Holds P) → Alike h f → Step h b n g → Alike g f × (n ≡ length (pieces w o l)) × (columns_of g ≡ done b (columns_of h))
+        told h b n g k s =
+            let t = steps h b n g s in
+            let u = t.0 in
+            let p = subst (λ m. PutPieces (lay w) b 0 (pieces w o m) (columns_of h) (columns_of g) n) (ap held k.1 ∙ lent) (rw (k.0 ∙ is) at t.1) in
+            ((u.0 ∙ k.0, u.1 ∙ k.1, u.2 ∙ k.2, u.3 ∙ k.3, u.4 ∙ k.4), omega (arith, p.count), p.is)
 
-  -- the columns with all pieces, where they are written
-  abbrev done : Bool → Merged P → Merged P
-  done b = lay_if (lay w) b 0 (pieces w o l)
+        -- where nothing is refused the passes can be run
+        pub merges : {Pre : Holds P → Bool → Type 0} → ((g : Holds P) (b : Bool) → Mergeable w g.0 (held g.1) b (columns_of g) → Pre g b) → Runnable Step (2 * length l.starts - 1) space Pre f
+        merges pre =
+            runnable {room = space} most_enough (λ g. Alike g f) columns_of done (λ c. refl) told {f = f} (refl, refl, refl, refl, refl)
+            (λ g b h y m. pre g b (rw (h.0 ∙ is, ap held h.1 ∙ lent, y) (record { formed = formed; lists_some = there; roomy = λ t. omega (arith, m t, q) })))
 
-  module _ {d' : Merged P} {n : ℕ} (p : PutPieces (lay w) write 0 (pieces w o l) d d' n) where
-    count : n ≡ length (pieces w o l)
-    count = omega (arith, p.count)
-
-    pub turns_long : Long (lengths d') (lengths c)
-    turns_long =
-        let q : d' ≡ done write c = p.is ∙ ap (done write) i.turn.kept in
-        rw q (if_keeps (merged_takes w) 0 write (pieces w o l) c (λ t. omega (arith, i.turn.enough t)))
-
-    module _ {s : Option Answer} (q : s ≡ concluded write n space) where
-      pub turns_answered : {a : Answer} → s ≡ Some a → leaves a d' ≡ merging w o l c
-      unfolding merging
-      turns_answered h = rw (formed_sound w (kind_of o) l i.formed) (turn_answered done (λ c. refl) i.turn count p.is q h)
-
-      pub turns_again : s ≡ None → (write ≡ false) × Turns w o l space c d' true
-      turns_again h = let t = turn_again done (λ c. refl) i.turn count p.is q h in (t.0, record { formed = i.formed; lists_some = i.lists_some; turn = t.1 })
+        -- and then they settle it
+        pub merged : {g : Holds P} {a : Answer} → Ran Step (2 * length l.starts - 1) space f g a → (leaves a (columns_of g) ≡ merging w o l (columns_of f)) × Alike g f
+        unfolding merging
+        merged t =
+            let k : Alike f f = (refl, refl, refl, refl, refl) in (
+              settled most_enough (λ g. Alike g f) columns_of done (λ c. refl) told k t ∙ rw (formed_sound w (kind_of o) l formed, q) refl,
+              known_last most_enough (λ g. Alike g f) columns_of done (λ c. refl) told k t,
+            )
 
 -- over zero lists an operation says of the whole line what it says of no lists
 module _ {P : Type 0} (w : Width P) (o : Operation) (some-point : 0 < w.points) (c : Merged P) where

@@ -15,7 +15,7 @@ use form::judge;
 use integer::Integer;
 use many_way_rules::{Operation, known};
 use multiway_pass::{Piece, pass as join_pass, put, rule_on};
-use passes::{conclude, most};
+use passes::run;
 use rules::{Kind, Lists, Refusal};
 use select_pass::pass as selection_pass;
 
@@ -41,7 +41,8 @@ pub fn rule_on_none(operation: Operation) -> Option<i64>
     }
 }
 
-// Zero lists: what an operation says of no lists it says of the whole line.
+// Zero lists: what an operation says of no lists it says of the whole line. Here and below the columns are lent one by one, since a struct
+// of `&mut` slices can not be lent on.
 fn of_none<P: Integer>(
     operation: Operation,
     space: usize,
@@ -67,7 +68,8 @@ fn of_none<P: Integer>(
     Ok(put(true, 0, Some(whole), out_start, out_end, out_value))
 }
 
-// One pass over the lists: how many pieces there are. They are written where `write` says so.
+// One pass over the lists: how many pieces there are. They are written where `write` says so, a flag: a closure that writes would hold
+// the columns, and its contract would say the same.
 fn pass<P: Integer>(
     operation: Operation,
     lent: Lists<P>,
@@ -90,8 +92,7 @@ fn pass<P: Integer>(
     }
 }
 
-// A many-way join or selection of the lists that are lent: what is refused, or all pieces, where there is room for them. Where the
-// room may not do, a counting pass tells how many there are.
+// A many-way join or selection of the lists that are lent: what is refused, or all pieces, where there is room for them.
 pub fn merge_lists<P: Integer>(
     operation: Operation,
     lent: Lists<P>,
@@ -107,12 +108,6 @@ pub fn merge_lists<P: Integer>(
     if lent.counts.is_empty() {
         return of_none(operation, space, out_start, out_end, out_value);
     }
-    let mut sure = most(lent.starts.len()) <= space;
-    loop {
-        let count = pass(operation, lent, sure, out_start, out_end, out_value);
-        if let Some(answer) = conclude(sure, count, space) {
-            return answer;
-        }
-        sure = true;
-    }
+    let mut over = move |write: bool| pass(operation, lent, write, out_start, out_end, out_value);
+    run(lent.starts.len(), space, &mut over)
 }

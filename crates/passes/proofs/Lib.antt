@@ -1,2 +1,2 @@
--- The laws of the passes: what the loop over them keeps.
-pub mod Turns
+-- The laws of the passes: what is known before each, and what they come to.
+pub mod Runs

@@ -1,9 +1,11 @@
-// Going over the lists once or twice: how many pieces there can be, and what a pass concludes.
+// Going over the lists once or twice: how many pieces there can be, and what the passes conclude. A flag tells a pass whether it writes:
+// a closure that writes would hold the columns, and its contract would say the same.
 
 #![tactic(auto)]
 
 ghost use Rattle.std.specs.Prelude.{◌*◌, ◌-◌, ◌≤◌, ◌≡◌};
 ghost use Rattle.passes.specs.Conclusion.{concluded};
+ghost use Rattle.passes.specs.Runs.{Runnable, Ran};
 
 use rules::Refusal;
 
@@ -26,4 +28,26 @@ pub fn conclude(wrote: bool, count: usize, room: usize) -> Option<Result<usize, 
         return Some(Err(Refusal::NoRoom(count)));
     }
     None
+}
+
+// What an operation answers. Its pass tells how many pieces there are, and writes them where it is told to: at once where the room is
+// sure to do, else after a pass that counts them.
+pub fn run<F: FnMut(bool) -> usize>(
+    ranges: usize,
+    room: usize,
+    pass: &mut F,
+) -> Result<usize, Refusal>
+    requires few { ranges ≤ 2048 }
+    requires runnable { Runnable F.step (2 * ranges - 1) room F.pre pass.now }
+    ensures { Ran F.step (2 * ranges - 1) room pass.old pass.new result }
+{
+    let mut write = most(ranges) <= room;
+    // One call in a loop of at most two turns, not two calls: so the compiler puts the pass in its place.
+    loop {
+        let count = pass(write);
+        if let Some(answer) = conclude(write, count, room) {
+            return answer;
+        }
+        write = true;
+    }
 }

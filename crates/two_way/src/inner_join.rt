@@ -13,6 +13,7 @@ pub fn next_piece<P: Integer>(lists: TwoLists<P>, cursor: Cursor) -> Option<(Pai
     ensures { let t = two P.width lists.entry in Stepped t Inner (view t cursor) result }
 {
     let mut kept = cursor;
+    // No index is counted: each turn goes on from the range that the one before skipped to.
     loop {
         let left = lists.left(kept)?;
         let right = lists.right(kept)?;

@@ -15,6 +15,7 @@ pub fn next_piece<P: Integer>(lists: TwoLists<P>, cursor: Cursor) -> Option<(Pai
     let left = lists.left(cursor)?;
     let left_end = key_at(lists.ends, left.at);
     let mut kept = cursor;
+    // No index is counted: each turn goes on from the range that the one before skipped to.
     while let Some(right) = lists.right(kept) {
         let right_end = key_at(lists.ends, right.at);
         if right_end < left.start {

@@ -11,12 +11,12 @@ ghost use Rattle.rules.specs.declared.Pairing.TheVariants.{Inner, Left, Full};
 
 use form::judge;
 use integer::Integer;
-use passes::{conclude, most};
+use passes::run;
 use rules::{Kind, Lists, Pairing, Refusal};
 use two_way_pass::pass;
 
-// The join that is asked for: what is refused, or all pieces, where there is room for them. Where the room may not do, a counting
-// pass tells how many there are.
+// The join that is asked for: what is refused, or all pieces, where there is room for them. Here and below the columns are lent one by one,
+// since a struct of `&mut` slices can not be lent on.
 pub fn join_lists<P: Integer>(
     asked: Pairing,
     lent: Lists<P>,
@@ -33,23 +33,19 @@ pub fn join_lists<P: Integer>(
     let ends = out_start.len().min(out_end.len());
     let sides = out_left.len().min(out_right.len());
     let room = ends.min(sides).min(out_presence.len());
-    let mut sure = most(lent.starts.len()) <= room;
-    loop {
-        let count = pass(
+    let mut over = move |write: bool| {
+        pass(
             asked,
             lent,
-            sure,
+            write,
             out_start,
             out_end,
             out_left,
             out_right,
             out_presence,
-        );
-        if let Some(answer) = conclude(sure, count, room) {
-            return answer;
-        }
-        sure = true;
-    }
+        )
+    };
+    run(lent.starts.len(), room, &mut over)
 }
 
 // The inner join of two lists: every run that a range of both covers.

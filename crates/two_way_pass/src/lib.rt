@@ -2,14 +2,14 @@
 
 #![tactic(auto)]
 
-ghost use Rattle.std.specs.Prelude.{◌≡◌, length};
+ghost use Rattle.std.specs.Prelude.{◌≡◌, ◌<◌, length};
 ghost use Rattle.rules.specs.Lists.{held};
 ghost use Rattle.rules.specs.TwoWay.{side_value};
 ghost use Rattle.rules.specs.Paired.{output, before, after};
 ghost use Rattle.rules.specs.Refusals.{Formed};
 ghost use Rattle.rules.specs.declared.Kind.TheVariants.{TwoWay};
 ghost use Rattle.two_way.specs.Steps.{Inside};
-ghost use Rattle.two_way_pass.specs.Pairs.{value};
+ghost use Rattle.two_way_pass.specs.Pairs.{value, two_lists};
 ghost use Rattle.two_way_pass.specs.Columns.{Writable, PutPair, Roomy, Passed};
 
 use integer::{Integer, put_key};
@@ -51,7 +51,20 @@ fn put<P: Integer>(
     out_presence[place] = pair.number();
 }
 
-// All pieces of two lists: how many there are. They are written where `write` says so.
+// The two lists that are lent: the first count tells where the left ends.
+fn two_lists<'a, P: Integer>(lent: Lists<'a, P>) -> TwoLists<'a, P>
+    requires { 0 < length lent.counts.now }
+    ensures { result ≡ two_lists lent.entry }
+{
+    TwoLists {
+        starts: lent.starts,
+        ends: lent.ends,
+        middle: lent.counts[0] as usize,
+    }
+}
+
+// All pieces of two lists: how many there are. They are written where `write` says so, a flag: a closure that writes would hold the columns,
+// and its contract would say the same.
 pub fn pass<P: Integer>(
     asked: Pairing,
     lent: Lists<P>,
@@ -68,19 +81,11 @@ pub fn pass<P: Integer>(
         (before out_start out_end out_left out_right out_presence)
         (after out_start out_end out_left out_right out_presence) result }
 {
-    let middle = lent.counts[0] as usize;
-    let lists = TwoLists {
-        starts: lent.starts,
-        ends: lent.ends,
-        middle,
-    };
-    // A step goes on from what the one before left, so the pieces are counted as they come: an iterator would need the same count.
+    let lists = two_lists(lent);
     let mut cursor = lists.begin();
+    // A step goes on from what the one before left, so the pieces are counted as they come: an iterator would need the same count.
     let mut count = 0;
-    loop {
-        let Some((pair, rest)) = next_piece(asked, lists, cursor) else {
-            return count;
-        };
+    while let Some((pair, rest)) = next_piece(asked, lists, cursor) {
         if write {
             put(
                 lent.values,
@@ -96,4 +101,5 @@ pub fn pass<P: Integer>(
         cursor = rest;
         count += 1;
     }
+    count
 }

@@ -1,10 +1,11 @@
--- `multiway_merge::merge_lists` meets its contract: it refuses, says what it says of no lists, or a pass concludes, the second where the first does not. Assumes nothing.
+-- `multiway_merge::merge_lists` meets its contract: it refuses, says what it says of no lists, or its passes settle it. Assumes nothing.
 use Prim.Native.Nat.{min}
-use mathlib.Core.Path.{sym, ap, ◌∙◌}
+use mathlib.Core.Path.{refl, sym, ap, ◌∙◌}
 use borrow.Author.Tests.{eqb-true, eqb-false}
 use native.Mathlib.Omega.{arith}
+use Rattle.std.proofs.Common.{rules}
 use Rattle.std.proofs.lemmas.Result.{err_from_is_err_and}
-use Rattle.multiway_merge.proofs.Outcomes.{refused, merged_none, turns_first, turns_answered}
+use Rattle.multiway_merge.proofs.Outcomes.{refused, merged_none, merges, merged, said}
 use Rattle.multiway_merge.proofs.merge_lists.Goals as goal
 
 -- something is refused
@@ -17,10 +18,13 @@ returns-in_err-judge g c =
 pub returns-then-is_empty : goal.returns-then-is_empty
 returns-then-is_empty g c = merged_none _ c.kind_of.ensures c.in_ok-judge.ensures (eqb-true _ _ (sym c.is_empty.ensures ∙ c.if-is_empty.true)) _ c.of_none.ensures
 
--- where there is sure to be room the first pass writes
-pub loop-answer-init : goal.loop-answer-init
-loop-answer-init g c = turns_first _ c.kind_of.ensures c.in_ok-judge.ensures (omega (arith, eqb-false _ _ (sym c.is_empty.ensures ∙ c.if-is_empty.false))) c.most.ensures (c.min-space.ensures ∙ ap (min _) c.min.ensures)
+-- the passes can be run
+pub run-requires-clause-runnable : goal.run-requires-clause-runnable
+run-requires-clause-runnable g c =
+    merges _ c.kind_of.ensures c.in_ok-judge.ensures (omega (arith, eqb-false _ _ (sym c.is_empty.ensures ∙ c.if-is_empty.false))) (λ f b n h s. search rules) _ refl refl (c.min-space.ensures ∙ ap (min _) c.min.ensures) (λ f b p. search rules)
 
--- a pass concludes
-pub returns-in-Some : goal.returns-in-Some
-returns-in-Some g c = turns_answered c.loop-answer.invariant c.pass-count.ensures c.conclude.ensures c.in-Some.is
+-- they settle it
+pub returns : goal.returns
+returns g c =
+    let e = merged _ c.kind_of.ensures c.in_ok-judge.ensures (omega (arith, eqb-false _ _ (sym c.is_empty.ensures ∙ c.if-is_empty.false))) (λ f b n h s. search rules) _ refl refl (c.min-space.ensures ∙ ap (min _) c.min.ensures) c.run.ensures in
+    said c.run.new.pass e.0 (e.1.2, e.1.3, e.1.4) (λ q. search (rules, q)) (λ q. search (rules, q)) (λ q. search (rules, q))

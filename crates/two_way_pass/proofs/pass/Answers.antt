@@ -7,19 +7,22 @@ use Rattle.two_way_pass.proofs.pass.Goals.{then-write, else-write}
 
 pub loop-pair-init : goal.loop-pair-init
 loop-pair-init g c =
-    going_first c.requires.formed refl (λ e. omega (arith, c.requires.roomy.enough e)) c.begin-cursor.ensures
+    going_first c.requires.formed refl (λ e. omega (arith, c.requires.roomy.enough e)) (rw c.two_lists-lists.ensures at c.begin-cursor.ensures)
 
-pub returns-in_default : goal.returns-in_default
-returns-in_default g c =
-    let e = going_last c.loop-pair.invariant c.next_piece.ensures c.in_default.is in record { count = e.0; laid = e.1 }
+pub next_piece-requires : goal.next_piece-requires
+next_piece-requires g c = rw c.two_lists-lists.ensures c.loop-pair.invariant.ready
+
+pub returns : goal.returns
+returns g c =
+    let e = going_last c.loop-pair.invariant (rw c.two_lists-lists.ensures at c.next_piece.ensures) c.in_default.is in record { count = e.0; laid = e.1 }
 
 pub overflow_add-count : goal.overflow_add-count
 overflow_add-count g c =
-    omega (arith, going_few c.loop-pair.invariant c.next_piece.ensures c.in-Some.is)
+    omega (arith, going_few c.loop-pair.invariant (rw c.two_lists-lists.ensures at c.next_piece.ensures) c.in-Some.is)
 
 pub loop-pair-preserved : goal.loop-pair-preserved
 loop-pair-preserved g c =
-    going_more c.loop-pair.invariant c.next_piece.ensures c.in-Some.is {place = c.loop-pair.count} (omega arith) (elim c.if-write.branch [
+    going_more c.loop-pair.invariant (rw c.two_lists-lists.ensures at c.next_piece.ensures) c.in-Some.is {place = c.loop-pair.count} (omega arith) (elim c.if-write.branch [
       | then-write w ↦ rw (w.out_start-is, w.out_end-is, w.out_left-is, w.out_right-is, w.out_presence-is, w.if-write.true) w.put.ensures.is
       | else-write w ↦ rw (w.out_start-is, w.out_end-is, w.out_left-is, w.out_right-is, w.out_presence-is, w.if-write.false) refl
     ])
