@@ -27,7 +27,8 @@ struct Heaped {
     lists: [u8; 16],
 }
 
-// The heap stands in its first `len` places; there is a mark for each list; `count` lists are active.
+// The heap stands in its first `len` places; there is a mark for each list; `count` lists are active. Both are numbers of what a set of fixed
+// room holds, with no heap memory: they are no index of a loop.
 #[derive(Drop)]
 pub struct Active {
     heap: Heaped,
@@ -106,7 +107,8 @@ impl Active {
         self.count -= 1;
     }
 
-    // The highest active list, or none. Lists that ended are dropped from the top: the last entry goes down from there.
+    // The highest active list, or none. Lists that ended are dropped from the top: the last entry goes down from there. The loop is a search:
+    // it goes on by what is on top.
     pub fn highest(&mut self) -> Option<usize>
         ensures same { self.new ≡ self.old }
         ensures highest { IsHighest (members self.old) result }

@@ -1,17 +1,19 @@
 -- What a place more adds to the values present, their sum and their number. Assumes nothing.
 use Prim.Native.Nat.{ℕ, zero, suc, ◌+◌, ◌^◌, ◌≤◌, ◌<◌}
-use mathlib.Core.Path.{◌≡◌, sym, ap, ◌∙◌}
-use mathlib.Core.Bool.{true, false}
+use mathlib.Core.Path.{◌≡◌, refl, sym, ap, ◌∙◌}
+use mathlib.Core.Bool.{Bool, true, false}
 use mathlib.Core.List.{List, [], ◌∷◌, ◌++◌, append-nil}
 use native.Mathlib.Omega.{arith}
 use native.Mathlib.Nat.{add-zero}
 use lib.IntN.{ℤ, pos, negsuc, ◌+ℤ◌}
-use lib.ListN.{length, get_or, length-append}
+use lib.ListN.{length, get_or, take, length-append}
 use lib.Signed.{mag, ◌≤ℤ◌}
 use mir.Syntax.{w64}
 use mir.Val.{of_z, to_z}
 use Rattle.std.specs.declared.option.Option.TheVariants.{Some}
+use Rattle.std.specs.List.{count_by}
 use Rattle.std.proofs.lemmas.Int.{ints, to_z-of_z}
+use Rattle.std.proofs.lemmas.List.Sums.{count_by_more_yes, count_by_more_no}
 use Rattle.rules.specs.Piece as pieces
 use Rattle.rules.proofs.Present.{present_append}
 use Rattle.many_way_rules.specs.Combiners as rules
@@ -36,11 +38,23 @@ module _ (s : Slots) (i : ℕ) where
   values_missing : get_or s.present i false ≡ false → values_of (i + 1) s ≡ values_of i s
   values_missing t = (rw t at values_last) ∙ append-nil (values_of i s)
 
-  pub number_there : get_or s.present i false ≡ true → length (values_of (i + 1) s) ≡ length (values_of i s) + 1
+  number_there : get_or s.present i false ≡ true → length (values_of (i + 1) s) ≡ length (values_of i s) + 1
   number_there t = ap length (values_there t) ∙ length-append (values_of i s) (get_or s.current i (pos 0) ∷ [])
 
-  pub number_missing : get_or s.present i false ≡ false → length (values_of (i + 1) s) ≡ length (values_of i s)
+  number_missing : get_or s.present i false ≡ false → length (values_of (i + 1) s) ≡ length (values_of i s)
   number_missing t = ap length (values_missing t)
+
+-- as many of the first n places are present as have values
+pub number : (s : Slots) (n : ℕ) → n ≤ length s.present → count_by (λ t. t) (take n s.present) ≡ length (values_of n s)
+number s zero h = refl
+number s (suc n) h = go (number s n (omega arith)) (get_or s.present n false) refl
+  where
+    e : n + 1 ≡ suc n
+    e = omega arith
+
+    go : count_by (λ t. t) (take n s.present) ≡ length (values_of n s) → (t : Bool) → get_or s.present n false ≡ t → count_by (λ u. u) (take (suc n) s.present) ≡ length (values_of (suc n) s)
+    go k true q = rw e at (count_by_more_yes (λ t. t) s.present n false (omega arith) q ∙ ap (λ m. m + 1) k ∙ sym (number_there s n q))
+    go k false q = rw e at (count_by_more_no (λ t. t) s.present n false (omega arith) q ∙ k ∙ sym (number_missing s n q))
 
 sum_last : (l : List ℤ) (v : ℤ) → sum_of (l ++ v ∷ []) ≡ sum_of l +ℤ v
 sum_last [] v = omega (arith, ints)

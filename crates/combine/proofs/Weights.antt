@@ -1,6 +1,6 @@
 -- Laws of the search for the largest value, or for the least, which is that whose mirror image is the largest. Assumes nothing.
 use Prim.Native.Nat.{ℕ, ◌+◌, ◌^◌, ◌<◌}
-use mathlib.Core.Path.{◌≡◌, sym, ap, ◌∙◌}
+use mathlib.Core.Path.{◌≡◌, refl, sym, ap, ◌∙◌}
 use mathlib.Core.Bool.{Bool, true, false, cond}
 use mathlib.Core.List.{List, [], ◌∷◌, ◌++◌, append-nil}
 use native.Mathlib.Omega.{arith}
@@ -10,6 +10,7 @@ use lib.Signed.{mag, le_z}
 use mir.Syntax.{w32}
 use mir.Val.{of_z, to_z}
 use Rattle.std.specs.declared.option.Option.TheVariants.{None, Some}
+use Rattle.std.specs.Bool.{then_some}
 use Rattle.std.specs.Int.{int_max}
 use Rattle.std.proofs.lemmas.Int.{ints, clamps, to_z-of_z}
 use Rattle.rules.specs.Piece as pieces
@@ -65,9 +66,13 @@ weighed_place least b l g e false v f = rw (lowest_right b g, append-nil l) e
 pub record Best (least : Bool) (b : ℤ) (i : ℕ) (s : Slots) : Type 0 where
   pub weighed : Weighed least b (values_of i s)
 
+some_is : {A : Type 0} (t : Bool) (v : A) → then_some t v ≡ cond t (Some v) None
+some_is true v = refl
+some_is false v = refl
+
 -- a place more, as the code has it: price, weight and the larger went through locals
-pub best_next : {least : Bool} {b : ℤ} {i : ℕ} {s : Slots} → Best least b i s → mag b < 2 ^ 31 → mag (get_or s.current i (pos 0)) < 2 ^ 31 → {w r : ℤ} → mag w < 2 ^ 31 → mag r < 2 ^ 31 → w ≡ weight least (cond (get_or s.present i false) (Some (to_z w32 (of_z w32 (get_or s.current i (pos 0))))) None) → r ≡ int_max b (to_z w32 (of_z w32 w)) → Best least (to_z w32 (of_z w32 r)) (i + 1) s
+pub best_next : {least : Bool} {b : ℤ} {i : ℕ} {s : Slots} → Best least b i s → mag b < 2 ^ 31 → mag (get_or s.current i (pos 0)) < 2 ^ 31 → {w r : ℤ} → mag w < 2 ^ 31 → mag r < 2 ^ 31 → w ≡ weight least (then_some (get_or s.present i false) (to_z w32 (of_z w32 (get_or s.current i (pos 0))))) → r ≡ int_max b (to_z w32 (of_z w32 w)) → Best least (to_z w32 (of_z w32 r)) (i + 1) s
 best_next {least} {b} {i} {s} k g f {w} {r} w-fits r-fits weighs picks =
     let back : to_z w32 (of_z w32 r) ≡ r = to_z-of_z w32 r (record { sfits = r-fits }) in
-    let is : r ≡ int_max b (weight least (slot s i)) = picks ∙ rw (to_z-of_z w32 w (record { sfits = w-fits }), weighs, to_z-of_z w32 (get_or s.current i (pos 0)) (record { sfits = f })) in
+    let is : r ≡ int_max b (weight least (slot s i)) = picks ∙ rw (to_z-of_z w32 w (record { sfits = w-fits }), weighs, to_z-of_z w32 (get_or s.current i (pos 0)) (record { sfits = f }), some_is (get_or s.present i false) (get_or s.current i (pos 0))) in
     rw back (record { weighed = rw (is, values_last s i) (weighed_place least b (values_of i s) g k.weighed (get_or s.present i false) (get_or s.current i (pos 0)) f) })

@@ -1,4 +1,5 @@
 // One list of tariff structs of instants, judged, as a C function: a code comes back, and its number is written.
+// In C each width has a function of its own name: an exported function takes no type parameter.
 
 #![tactic(auto)]
 

@@ -1,4 +1,5 @@
 // The event listing over lent columns of instants as a C function: an answer's code comes back, and its number is written.
+// In C each width has a function of its own name: an exported function takes no type parameter. Columns come one by one, as C has them.
 
 #![tactic(auto)]
 

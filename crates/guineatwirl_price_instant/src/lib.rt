@@ -1,4 +1,5 @@
 // The price at a point of lent columns of instants, as a C function.
+// In C each width has a function of its own name: an exported function takes no type parameter. Columns come one by one, as C has them.
 
 #![tactic(auto)]
 

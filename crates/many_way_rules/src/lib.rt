@@ -19,7 +19,8 @@ pub enum Pick {
     Highest,
 }
 
-// A join combines the values of the lists present, by the number of its combiner; a selection takes the value of one.
+// A join combines the values of the lists present, by the number of its combiner; a selection takes the value of one. The number stays one:
+// C and the tariff file hand it over, rules and texts say it, and an enum in between would only rename five arms.
 #[derive(Clone, Copy, Debug, PartialEq, Eq)]
 pub enum Operation {
     Join(Admission, u8),

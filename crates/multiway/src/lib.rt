@@ -1,4 +1,5 @@
-// The many-way joins and selections: inner and full join, union and symmetric difference.
+// The many-way joins and selections: inner and full join, union and symmetric difference, each by its name. A combiner is told by its number, as
+// C hands it over; columns that are written stay apart, as they are lent on one by one.
 
 #![tactic(auto)]
 

@@ -1,5 +1,5 @@
 // One pass of a many-way join over the stretches of the lists: what the join says of a stretch, a piece that is merged into the one before
-// or is not, and the pieces counted, and written where that is asked.
+// or is not, and the pieces counted, and written where that is asked. A combiner is told by its number, as C hands it over.
 
 #![tactic(auto)]
 
@@ -144,7 +144,7 @@ pub fn put<P: Integer>(
     place + 1
 }
 
-// One pass over all stretches: how many pieces there are. They are written where `write` says so.
+// One pass over all stretches: how many pieces there are. They are written where `write` says so, a flag as it is in `put`.
 pub fn pass<P: Integer>(
     admission: Admission,
     combiner: u8,

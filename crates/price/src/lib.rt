@@ -1,4 +1,5 @@
-// The price at a point of lent columns with pieces, and the prices at many.
+// The price at a point of lent columns with pieces, and the prices at many. What looks for a place goes by the starts alone, and takes that
+// column alone.
 
 #![tactic(auto)]
 
@@ -52,7 +53,7 @@ fn count<P: Integer>(start: &[P], base: usize, places: usize, point: u64) -> usi
     counted
 }
 
-// The place to which halving comes while more than so many are left.
+// The place to which halving comes while more than so many are left. It is a search: its loop counts no places, but goes by what it finds.
 fn halve<P: Integer>(start: &[P], among: usize, most: usize, point: u64) -> usize
     requires { (0 < most) × (0 < among) × (among ≤ length start.now) }
     ensures { (result ≡ halve (keys P.width start.now) point most among 0 among) × (result < among) }
@@ -82,7 +83,8 @@ fn find<P: Integer>(start: &[P], among: usize, point: u64) -> usize
 }
 
 impl<P: Integer> Pieces<'_, P> {
-    // How many places count: those of the first pieces, so many of them, that all three columns have.
+    // How many places count: those of the first pieces, so many of them, that all three columns have. C hands over that number: with no heap,
+    // columns have room for more.
     pub fn places(self, pieces: usize) -> usize
         ensures { result ≡ places (held self.entry) pieces }
     {
@@ -169,8 +171,8 @@ impl<P: Integer> Pieces<'_, P> {
         if out_value.len().min(out_presence.len()) < rows {
             return Err(Refusal::NoRoom(rows));
         }
-        for i in 0..rows {
-            let price = self.price_at_key(pieces, key_at(points, i));
+        for (i, point) in points.iter().enumerate() {
+            let price = self.price_at_key(pieces, point.key());
             out_value[i] = price.unwrap_or(0);
             out_presence[i] = price.is_some() as u8;
         }

@@ -36,6 +36,7 @@ pub enum Refusal {
     NoRoom(usize),
 }
 
+// Both numbers are those of the C interface: over variants with fields no conversion of the language gives them.
 impl Refusal {
     pub fn code(self) -> u8
         ensures { result ≡ refusal_code self }

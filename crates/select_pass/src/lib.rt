@@ -134,8 +134,8 @@ impl Selection {
     }
 }
 
-// One pass over all events: how many pieces there are. They are written where `write` says so. At each event the stretch before it makes
-// a piece, if it is kept, then the event is taken; n ranges have 2n events.
+// One pass over all events: how many pieces there are. They are written where `write` says so, a flag as it is in `put`. At each event the
+// stretch before it makes a piece, if it is kept, then the event is taken; n ranges have 2n events.
 pub fn pass<P: Integer>(
     admission: Admission,
     lent: Lists<P>,

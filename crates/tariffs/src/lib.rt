@@ -25,8 +25,8 @@ pub fn judge_tariffs<T: Ranged>(list: &[T]) -> Result<(), Refusal>
     ensures { result ≡ judge_list None (placed T.range 0 list.now) }
 {
     let mut prior = None;
-    for i in 0..list.len() {
-        let range = list[i].range();
+    for (i, tariff) in list.iter().enumerate() {
+        let range = tariff.range();
         judge_range(prior, range, i)?;
         prior = Some(range.end);
     }

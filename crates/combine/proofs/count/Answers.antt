@@ -1,17 +1,17 @@
 -- `count` meets its contract. Assumes nothing.
-use mathlib.Core.Path.{sym, ◌∙◌}
-use mathlib.Core.Bool.{false}
+use Rattle.std.proofs.Common.{◌≡◌, ◌≤◌}
+use mathlib.Core.Path.{◌∙◌}
 use native.Mathlib.Omega.{arith}
-use lib.Seq.{get_or-take}
-use Rattle.slots.specs.Slots.{slots_of}
-use Rattle.combine.proofs.Laws.{number_there, number_missing}
+use lib.ListN.{length}
+use Rattle.std.proofs.lemmas.Int.{ints}
+use Rattle.slots.specs.Slots.{slots_of, active, values_of}
+use Rattle.slots.proofs.Slots.{active_length, count_upto}
+use Rattle.combine.proofs.Laws.{number}
 use Rattle.combine.proofs.count.Goals as goal
-use Rattle.combine.proofs.count.Goals.{then-here, else-here}
 
-pub loop-here-preserved : goal.loop-here-preserved
-loop-here-preserved c =
-    let i = c.loop-here.here-index in
-    elim c.if-here.branch [
-      | then-here w ↦ (omega arith, λ current. omega (arith, c.loop-here.invariant.1 current, number_there (slots_of current c.args.present.now) i (sym (get_or-take _ _ i false (omega arith)) ∙ w.if-here.true)))
-      | else-here w ↦ (omega arith, λ current. omega (arith, c.loop-here.invariant.1 current, number_missing (slots_of current c.args.present.now) i (sym (get_or-take _ _ i false (omega arith)) ∙ w.if-here.false)))
-    ]
+pub returns : goal.returns
+returns c current =
+    let s = slots_of current c.args.present.now in
+    let is : c.how_many.result ≡ length (values_of c.args.places s) = c.how_many.ensures ∙ number s c.args.places (omega arith) in
+    let few : c.how_many.result ≤ c.args.places = omega (arith, is, count_upto (active c.args.places s), active_length c.args.places s) in
+    record { is = omega (arith, ints, is, few); bound = omega (arith, ints, few) }

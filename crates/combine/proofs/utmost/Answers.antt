@@ -6,4 +6,4 @@ use Rattle.combine.proofs.utmost.Goals as goal
 
 pub loop-i-preserved : goal.loop-i-preserved
 loop-i-preserved g c =
-    best_next c.loop-i.invariant (sfits_to_z c.loop-i.auto.best-fits).sfits (omega arith) c.weight.type_inv c.max-best.type_inv c.weight.ensures c.max-best.ensures.value
+    best_next c.loop-i.invariant (sfits_to_z c.loop-i.auto.best-fits).sfits (omega arith) c.weight.type_inv c.max-best.type_inv (rw c.then_some.ensures at c.weight.ensures) c.max-best.ensures.value
