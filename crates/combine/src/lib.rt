@@ -71,8 +71,7 @@ fn mirrored<const SO: bool>(price: i32) -> i32
     if SO { -1 - price } else { price }
 }
 
-// How many of some places are present. They are added up: with `filter` and `count` the compiler takes a branch at each place, and sixteen take 116
-// instructions more.
+// How many of some places are present. They are added up: with `filter` and `count` the compiler takes a branch at each place.
 fn how_many(present: &[bool]) -> usize
     requires { length present.now ≤ 16 }
     ensures { result ≡ count_by (λ here. here) present.now }
