@@ -73,13 +73,14 @@ impl<'a, P: Integer> TwoLists<'a, P> {
         requires { let t = two P.width self in Covering t (view t cursor) pair }
         ensures { let t = two P.width self.entry in Taken t (view t cursor) pair result }
     {
-        let left = self.advance(self.middle, cursor.left, pair.left_place(), pair.end);
+        // The right first: in the other order the left join takes longer.
         let right = self.advance(
             self.starts.len(),
             cursor.right,
             pair.right_place(),
             pair.end,
         );
+        let left = self.advance(self.middle, cursor.left, pair.left_place(), pair.end);
         (pair, Cursor { left, right })
     }
 }
