@@ -26,7 +26,8 @@ struct Row {
     value: i32,
 }
 
-// The row of an event, its kind as the C interface numbers it: 0 a start, 1 an end, which has no value.
+// The row of an event, its kind as the C interface numbers it: 0 a start, 1 an end, which has no value. It asks that the list is a byte, which `From`
+// asks of no one.
 fn row_of(event: Event) -> Row
     requires { list (event_of event) < 256 }
     ensures { RowOf (event_of event) result }

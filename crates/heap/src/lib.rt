@@ -32,7 +32,7 @@ pub trait Places {
         requires { place < 16 }
         ensures { Stored (ranks self.old) (ranks self.new) place (rank entry) };
 
-    // Whether an entry comes before another.
+    // Whether an entry comes before another. It is said of ranks, which `Ord` has none of.
     fn earlier(entry: Self::Entry, other: Self::Entry) -> bool
         ensures { Less (rank entry) (rank other) result };
 }
@@ -84,7 +84,7 @@ pub fn sift<S: Places>(places: &mut S, len: usize, place: usize, entry: S::Entry
     places.put(place, entry);
 }
 
-// The places of entries. Keys and lists are two arrays, since one array of entries is slower by a tenth.
+// The places of entries. Keys and lists are two arrays: with one array of entries the event listing takes more time.
 #[derive(Clone, Copy)]
 struct Entries {
     keys: [u64; 16],
@@ -115,7 +115,7 @@ impl Places for Entries {
     }
 }
 
-// The first `len` places are in use.
+// The first `len` places are in use: no heap memory, so the room is fixed and how much of it is in use is told beside it.
 #[derive(Clone, Copy)]
 pub struct Heap {
     places: Entries,

@@ -12,20 +12,15 @@ use borrow.Author.Tests.{lt-ltb, le-ltb, ltb-true}
 use mir.Syntax.{w64}
 use mir.Val.{Fits, SFits, of_z, to_z}
 use mir.ValLaws.{to_z_pos}
+use Rattle.std.proofs.lemmas.List.{get_or_default}
 use Rattle.rules.specs.Lists.{Width, key64, point64}
 use Rattle.integer.specs.Faithful.{Faithful}
 use Rattle.integer.specs.KeyAt.{KeyAt}
 use Rattle.integer.proofs.Laws.{back}
 
--- what stands at a place within a list is the same, whatever is read elsewhere
-pub get_d_any : {A : Type 0} (l : List A) (i : ℕ) (a b : A) → i < length l → get_or l i a ≡ get_or l i b
-get_d_any [] i a b h = absurd (omega arith)
-get_d_any (x ∷ l) zero a b h = refl
-get_d_any (x ∷ l) (suc i) a b h = get_d_any l i a b (omega arith)
-
 module _ {P : Type 0} {w : Width P} {Fits : P → Type 0} (f : Faithful w Fits) where
   pub key_at : (column : List P) (place r : ℕ) (d : P) → place < length column → Fits (get_or column place d) → r ≡ w.key (get_or column place d) → KeyAt w column place r
-  key_at column place r d h g e = record { is = e ∙ ap w.key (get_d_any column place d (w.point 0) h); below = rw e (f.below _ g) }
+  key_at column place r d h g e = record { is = e ∙ ap w.key (get_or_default column place d (w.point 0) h); below = rw e (f.below _ g) }
 
 -- what `key` asks of its two ways, at an instant z that has the key k: below 0 it takes off the least, and from 0 on it adds 2 ^ 63
 abbrev Unsigned : ℤ → Type 0

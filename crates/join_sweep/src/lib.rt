@@ -27,6 +27,7 @@ pub struct JoinSweep<'a> {
     // Two arrays, as the combiners read them.
     pub current: [i32; 16],
     pub present: [bool; 16],
+    // How many are present, kept by what starts and ends: counting them anew for each stretch takes sixteen looks.
     pub active_count: usize,
     pub last_end: Option<u64>,
 }

@@ -11,7 +11,7 @@ use lib.ListN.{length, get_or-replicate}
 use lib.Signed.{le_z, ◌≤ℤ◌}
 use Rattle.rules.proofs.Faults.{Tells, tells_lt, tells_le, tells_both, tells_not_holds}
 use Rattle.rules.proofs.Extreme.{Extreme, reversed, Better, extreme_exactly}
-use Rattle.rules.proofs.Same.{None≢Some}
+use Rattle.std.proofs.lemmas.Option.{none-some}
 use Rattle.many_way_rules.specs.Combiners.{sum_of, largest, smallest, combine, known}
 use Rattle.many_way_rules.proofs.Integers.{order_ℤ, either_way, TowardZero, quotient_exactly}
 
@@ -32,7 +32,7 @@ pub known_exactly : (c : ℕ) (vs : List ℤ) → (known c ≡ false) ↔ (combi
 known_exactly zero vs = (λ h. refl, λ h. refl)
 known_exactly (suc i) vs =
     ⊎_elim
-    (λ a. (λ q. absurd ((tells_known (suc i)).no q (omega arith)), λ q. absurd (None≢Some a.1.0 (sym q ∙ a.1.1))))
+    (λ a. (λ q. absurd ((tells_known (suc i)).no q (omega arith)), λ q. absurd (none-some a.1.0 (sym q ∙ a.1.1))))
     (λ a. (λ q. a.1, λ q. tells_not_holds (tells_known (suc i)) (λ k. omega arith)))
     (answers i vs)
 

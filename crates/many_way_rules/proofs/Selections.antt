@@ -12,7 +12,7 @@ use lib.IntN.{ℤ}
 use lib.ListN.{length, get_or}
 use borrow.Author.Tests.{eq-eqb, ne_eqb, lt-ltb}
 use Rattle.rules.specs.Piece.{there, present}
-use Rattle.rules.proofs.Same.{None≢Some}
+use Rattle.std.proofs.lemmas.Option.{none-some}
 use Rattle.rules.proofs.Present.{Something}
 use Rattle.many_way_rules.specs.Combiners.{combine}
 use Rattle.many_way_rules.specs.Selections.{in_every, in_any, in_odd, admitted, highest, picked}
@@ -43,7 +43,7 @@ module _ {A : Type 0} where
 
   place_every : (os : List (Option A)) → ((i : ℕ) → i < length os → Something (get_or os i None)) → in_every os ≡ true
   place_every [] f = refl
-  place_every (None ∷ os) f = let s = f 0 (omega arith) in absurd (None≢Some s.0 s.1)
+  place_every (None ∷ os) f = let s = f 0 (omega arith) in absurd (none-some s.0 s.1)
   place_every (Some v ∷ os) f = place_every os (λ i h. f (suc i) (omega arith))
 
   some_place : (os : List (Option A)) → in_any os ≡ true → (i : ℕ) × Something (get_or os i None)
@@ -52,8 +52,8 @@ module _ {A : Type 0} where
   some_place (Some v ∷ os) e = (0, (v, refl))
 
   place_some : (os : List (Option A)) (i : ℕ) → Something (get_or os i None) → in_any os ≡ true
-  place_some [] i s = absurd (None≢Some s.0 s.1)
-  place_some (None ∷ os) zero s = absurd (None≢Some s.0 s.1)
+  place_some [] i s = absurd (none-some s.0 s.1)
+  place_some (None ∷ os) zero s = absurd (none-some s.0 s.1)
   place_some (None ∷ os) (suc i) s = place_some os i s
   place_some (Some v ∷ os) i s = refl
 
@@ -138,15 +138,15 @@ module _ {A : Type 0} where
     where
       go : (l : Option A) → highest os ≡ l → (highest os ≡ None) ↔ ((i : ℕ) → get_or os i None ≡ None) → (cond (there l) l o ≡ None) ↔ ((i : ℕ) → get_or (o ∷ os) i None ≡ None)
       go None q rest = (λ e. all_none o os e (rest.0 q), λ f. f 0)
-      go (Some u) q rest = (λ e. absurd (None≢Some u (sym e)), λ f. absurd (None≢Some u (sym (rest.1 (λ i. f (suc i))) ∙ q)))
+      go (Some u) q rest = (λ e. absurd (none-some u (sym e)), λ f. absurd (none-some u (sym (rest.1 (λ i. f (suc i))) ∙ q)))
 
   pub highest_exactly : (os : List (Option A)) (v : A) → (picked Highest os ≡ Some v) ↔ Last os v
-  highest_exactly [] v = (λ e. absurd (None≢Some v e), λ l. absurd (None≢Some v l.there))
+  highest_exactly [] v = (λ e. absurd (none-some v e), λ l. absurd (none-some v l.there))
   highest_exactly (o ∷ os) v = go (highest os) refl (highest_exactly os v)
     where
       go : (l : Option A) → highest os ≡ l → (highest os ≡ Some v) ↔ Last os v → (cond (there l) l o ≡ Some v) ↔ Last (o ∷ os) v
-      go None q rest = (λ e. here_last o os v e ((highest_none os).0 q), λ l. ⊎_elim (λ h. h.0) (λ r. absurd (None≢Some v (sym q ∙ rest.1 r))) (last_cases o os v l))
-      go (Some u) q rest = (λ e. later_last o os v (rest.0 (q ∙ e)), λ l. ⊎_elim (λ h. absurd (None≢Some u (sym ((highest_none os).1 h.1) ∙ q))) (λ r. sym q ∙ rest.1 r) (last_cases o os v l))
+      go None q rest = (λ e. here_last o os v e ((highest_none os).0 q), λ l. ⊎_elim (λ h. h.0) (λ r. absurd (none-some v (sym q ∙ rest.1 r))) (last_cases o os v l))
+      go (Some u) q rest = (λ e. later_last o os v (rest.0 (q ∙ e)), λ l. ⊎_elim (λ h. absurd (none-some u (sym ((highest_none os).1 h.1) ∙ q))) (λ r. sym q ∙ rest.1 r) (last_cases o os v l))
 
 -- what each operation says of what the lists have: whether it admits them, and with which value
 module _ (os : List (Option ℤ)) (v : ℤ) where
@@ -155,7 +155,7 @@ module _ (os : List (Option ℤ)) (v : ℤ) where
     where
       go : (t : Bool) → admitted (admission o) os ≡ t → (cond t (value_of o os) None ≡ Some v) ↔ (Admits (admission o) os × (value_of o os ≡ Some v))
       go true e = (λ q. ((admitted_exactly (admission o) os).0 e, q), λ h. h.1)
-      go false e = (λ q. absurd (None≢Some v q), λ h. absurd (true≢false (sym ((admitted_exactly (admission o) os).1 h.0) ∙ e)))
+      go false e = (λ q. absurd (none-some v q), λ h. absurd (true≢false (sym ((admitted_exactly (admission o) os).1 h.0) ∙ e)))
 
   pub inner_exactly : (c : ℕ) → (rule_of (inner c) os ≡ Some v) ↔ (((i : ℕ) → i < length os → Something (get_or os i None)) × (combine c (present os) ≡ Some v))
   inner_exactly c = rule_exactly (inner c)

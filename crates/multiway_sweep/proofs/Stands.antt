@@ -15,7 +15,7 @@ use Rattle.heap.proofs.Laws.{by_eq}
 use Rattle.rules.specs.Piece.{Piece}
 use Rattle.rules.specs.Lists.{range, ranges}
 use Rattle.rules.specs.Sweep as events
-use Rattle.rules.proofs.Same.{None≢Some}
+use Rattle.std.proofs.lemmas.Option.{none-some}
 use Rattle.rules.proofs.At.{le_or_lt}
 use Rattle.rules.proofs.Columns.{ranges_more, ranges_done}
 use Rattle.multiway_sweep.specs.Cursors.{Cursor, fresh, left, StartNext, EndNext}
@@ -28,7 +28,7 @@ amount_few None = omega arith
 amount_few (Some p) = omega arith
 
 clash : {A : Type 0} {o : Option A} {a : A} → o ≡ None → o ≡ Some a → ⊥
-clash {a = a} p q = None≢Some a (sym p ∙ q)
+clash {a = a} p q = none-some a (sym p ∙ q)
 
 module _ {A : Type 0} where
   at_same : (cs : List (Cursor A)) (j : ℕ) (c : Cursor A) → j < length cs → at (set cs j c) j ≡ c

@@ -39,7 +39,8 @@ pub type Courses = [Course; 16];
 // Lists of no ranges.
 pub const NO_COURSES: Courses = [Course { next: 0, stop: 0 }; 16];
 
-// Where a sweep stands: the courses of the lists, a heap of the starts of the next ranges, and a heap of the ends of the active ones.
+// Where a sweep stands: the courses of the lists, a heap of the starts of the next ranges, and a heap of the ends of the active ones. It is
+// the form by value, whose step is `next`; the joins sweep over lent parts.
 #[derive(Clone, Copy)]
 pub struct Sweep {
     courses: Courses,
@@ -76,11 +77,11 @@ pub fn end_first(next: Option<Entry>, end: u64) -> bool
 // Lays the courses of lists and the heap of their first starts; with no range active a sweep stands before all events.
 #[inline(always)]
 fn fill<P: Integer>(lent: Lists<'_, P>, courses: &mut Courses, starts: &mut Heap)
-    requires fits { (length lent.counts.now ≤ 16) × (total lent.counts.now ≡ length lent.starts.now) }
-    requires empty { starts.old.len ≡ 0 }
+    requires { (length lent.counts.now ≤ 16) × (total lent.counts.now ≡ length lent.starts.now) }
     ensures { (idle : declared.Heap) → idle.len ≡ 0 →
         NewSweep P.width (held lent.entry) (record { courses = courses.new; starts = starts.new; active_ends = idle }) }
 {
+    *starts = Heap::new();
     let mut from: usize = 0;
     for k in 0..lent.counts.len() {
         let stop = from + lent.counts[k] as usize;
@@ -111,7 +112,7 @@ impl Sweep {
 }
 
 impl<'a> SweepMut<'a> {
-    // A sweep over lists.
+    // A sweep over lists, whatever stands in the parts.
     #[inline(always)]
     pub fn new<P: Integer>(
         lent: Lists<'_, P>,
@@ -119,11 +120,11 @@ impl<'a> SweepMut<'a> {
         starts: &'a mut Heap,
         active_ends: &'a mut Heap,
     ) -> SweepMut<'a>
-        requires fits { (length lent.counts.now ≤ 16) × (total lent.counts.now ≡ length lent.starts.now) }
-        requires empty { (starts.old.len ≡ 0) × (active_ends.old.len ≡ 0) }
+        requires { (length lent.counts.now ≤ 16) × (total lent.counts.now ≡ length lent.starts.now) }
         ensures { NewSweep P.width (held lent.entry) (whole result) }
     {
         fill(lent, courses, starts);
+        *active_ends = Heap::new();
         SweepMut {
             courses,
             starts,

@@ -53,7 +53,8 @@ fn count<P: Integer>(start: &[P], base: usize, places: usize, point: u64) -> usi
     counted
 }
 
-// The place to which halving comes while more than so many are left. It is a search: its loop counts no places, but goes by what it finds.
+// The place to which halving comes while more than so many are left. It is a search, and no count of places. The price of columns that do not ascend is
+// what this halving finds, and `partition_point` promises nothing of them.
 fn halve<P: Integer>(start: &[P], among: usize, most: usize, point: u64) -> usize
     requires { (0 < most) × (0 < among) × (among ≤ length start.now) }
     ensures { (result ≡ halve (keys P.width start.now) point most among 0 among) × (result < among) }

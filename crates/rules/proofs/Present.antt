@@ -11,7 +11,7 @@ use native.Mathlib.Omega.{arith}
 use lib.ListN.{length, get_or}
 use Rattle.rules.specs.Piece.{Piece, at, column, there, present, Within}
 use Rattle.rules.proofs.At.{at_in, at_before, at_after, le_or_lt}
-use Rattle.rules.proofs.Same.{None≢Some}
+use Rattle.std.proofs.lemmas.Option.{none-some}
 
 module _ {A : Type 0} where
   -- x is one of the pieces and holds p
@@ -34,7 +34,7 @@ module _ {A : Type 0} where
       (Memᴰ.cases_cons h.member)
 
   at_holds : (p : ℕ) (v : A) (xs : List (Piece A)) → at xs p ≡ Some v → (x : Piece A) × Holds xs p x × (x.value ≡ v)
-  at_holds p v [] e = absurd (None≢Some v e)
+  at_holds p v [] e = absurd (none-some v e)
   at_holds p v (y ∷ ys) e = go (le_or_lt y.start p) (le_or_lt p y.end) (at_holds p v ys)
     where
       later : at (y ∷ ys) p ≡ at ys p → (at ys p ≡ Some v → (x : Piece A) × Holds ys p x × (x.value ≡ v)) → (x : Piece A) × Holds (y ∷ ys) p x × (x.value ≡ v)
@@ -59,7 +59,7 @@ module _ {A : Type 0} where
   Something o = (v : A) × (o ≡ Some v)
 
   pub there_exactly : (o : Option A) → (there o ≡ true) ↔ Something o
-  there_exactly None = (λ q. absurd (false≢true q), λ s. absurd (None≢Some s.0 s.1))
+  there_exactly None = (λ q. absurd (false≢true q), λ s. absurd (none-some s.0 s.1))
   there_exactly (Some v) = (λ q. (v, refl), λ s. refl)
 
   -- the values present, in list order, each as often as it stands there

@@ -9,12 +9,9 @@ use native.Mathlib.Omega.{arith}
 use lib.IntN.{ℤ, pos, negsuc}
 use lib.Dec.{eqb}
 use borrow.Author.Tests.{eqb-true, eqb-false}
+use Rattle.std.proofs.lemmas.Option.{none-some}
 use Rattle.rules.specs.Same.{Decides, eq_ℤ, eq_option, eq_pair}
 use Rattle.rules.specs.TwoWay.{same_match}
-
--- nothing is not something
-pub None≢Some : {A : Type 0} (v : A) → None ≢ Some v
-None≢Some v e = let z : ◌≡◌ {A = ℕ} 0 1 = cc in omega arith
 
 decides_ℕ : Decides eqb
 decides_ℕ = record { equal = eqb-true; differ = eqb-false }
@@ -46,8 +43,8 @@ module _ {A : Type 0} (same : A → A → Bool) (law : Decides same) where
 
       differ : (a b : Option A) → eq_option same a b ≡ false → a ≡ b → ⊥
       differ None None e q = true≢false e
-      differ None (Some b) e q = None≢Some b q
-      differ (Some a) None e q = None≢Some a (sym q)
+      differ None (Some b) e q = none-some b q
+      differ (Some a) None e q = none-some a (sym q)
       differ (Some a) (Some b) e q = law.differ a b e (cc)
 
   pub decides_pair : {B : Type 0} (like : B → B → Bool) → Decides like → Decides (eq_pair same like)

@@ -22,7 +22,8 @@ use Rattle.rules.specs.Outcomes.{pairing}
 use Rattle.rules.specs.Proving.Below.{Below}
 use Rattle.rules.specs.declared.Kind.TheVariants.{TwoWay}
 use Rattle.rules.proofs.At.{at_in, at_before, at_after, at_early, le_or_lt}
-use Rattle.rules.proofs.Same.{None≢Some, decides_match}
+use Rattle.std.proofs.lemmas.Option.{none-some}
+use Rattle.rules.proofs.Same.{decides_match}
 use Rattle.rules.proofs.Present.{Something, there_exactly}
 use Rattle.rules.proofs.Refusals.{lacks, fits}
 use Rattle.rules.proofs.Runs.{runs_below, runs_only}
@@ -53,11 +54,11 @@ covers Full (Some i) b e = inl (i, refl)
 covers Full None b e = inr ((there_exactly b).0 e)
 
 leaves_out : (o : Pairing) (a b : Option ℕ) → keeps o (a, b) ≡ false → Covers o a b → ⊥
-leaves_out Inner None b e c = None≢Some c.0.0 c.0.1
+leaves_out Inner None b e c = none-some c.0.0 c.0.1
 leaves_out Inner (Some i) b e c = true≢false (sym ((there_exactly b).1 c.1) ∙ e)
 leaves_out Left a b e c = true≢false (sym ((there_exactly a).1 c) ∙ e)
 leaves_out Full (Some i) b e c = true≢false e
-leaves_out Full None b e (inl c) = None≢Some c.0 c.1
+leaves_out Full None b e (inl c) = none-some c.0 c.1
 leaves_out Full None b e (inr c) = true≢false (sym ((there_exactly b).1 c) ∙ e)
 
 module _ (o : Pairing) (n : ℕ) (l r : List (Piece ℕ)) (u : WellFormed n l) (w : WellFormed n r) where
@@ -67,7 +68,7 @@ module _ (o : Pairing) (n : ℕ) (l r : List (Piece ℕ)) (u : WellFormed n l) (
     where
       go : (t : Bool) → keeps o (at l p, at r p) ≡ t → (cond t (Some (at l p, at r p)) None ≡ Some m) ↔ ((m ≡ (at l p, at r p)) × Covers o (at l p) (at r p))
       go true e = (λ q. (cc, covers o (at l p) (at r p) e), λ c. ap Some (sym c.0))
-      go false e = (λ q. absurd (None≢Some m q), λ c. absurd (leaves_out o (at l p) (at r p) e c.1))
+      go false e = (λ q. absurd (none-some m q), λ c. absurd (leaves_out o (at l p) (at r p) e c.1))
 
 module _ {A : Type 0} where
   pub within_low : (b c n : ℕ) (xs : List (Piece A)) → b ≤ c → Within c n xs → Within b n xs

@@ -23,7 +23,7 @@ use Rattle.rules.specs.Refusals.{Formed}
 use Rattle.rules.specs.declared.Kind.{Kind}
 use Rattle.rules.proofs.Columns.{lists_length}
 use Rattle.rules.proofs.Refusals.{lists_formed}
-use Rattle.rules.proofs.Same.{None≢Some}
+use Rattle.std.proofs.lemmas.Option.{none-some}
 use Rattle.rules.proofs.Sweep.{kind_small}
 use Rattle.many_way_rules.specs.declared.Admission.{Admission}
 use Rattle.many_way_rules.specs.declared.Pick.TheVariants.{Highest}
@@ -233,7 +233,7 @@ selecting_first w {l = l} f b {s} h q =
       left = events ls;
       front = front_first w.points ls (lists_formed f);
       sweeping = begun f b;
-      carried = record { few = omega (arith, nones_length ls); long = ap length h.current ∙ long; stands = rw h.active (stands_same stands_idle (λ i v. sym (nothing_at ls i))); values = λ i v e. absurd (None≢Some v (sym (none_at ls i) ∙ e)) };
+      carried = record { few = omega (arith, nones_length ls); long = ap length h.current ∙ long; stands = rw h.active (stands_same stands_idle (λ i v. sym (nothing_at ls i))); values = λ i v e. absurd (none-some v (sym (none_at ls i) ∙ e)) };
       counted = q ∙ sym (events_count f);
       start = rw h.start (inl refl);
     }

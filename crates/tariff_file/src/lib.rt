@@ -8,8 +8,6 @@ ghost use Rattle.tariff_file.specs.File.{task_of, code_of, number_of};
 
 use many_way_rules::{Admission, Pick};
 use rules::Pairing;
-use std::error::Error;
-use std::fmt;
 
 // What an operation does with the lists: a two-way join, a join, whose combiner the head gives, or a selection.
 #[derive(Clone, Copy, Debug, PartialEq, Eq)]
@@ -95,22 +93,3 @@ impl Refusal {
         }
     }
 }
-
-impl fmt::Display for Refusal {
-    fn fmt<W: fmt::Write>(&self, f: &mut fmt::Formatter<W>) -> fmt::Result {
-        let what = match self {
-            Refusal::TooLong => return write!(f, "more than {MAX_BYTES} bytes"),
-            Refusal::WrongMark(_) => "wrong mark",
-            Refusal::CutShort(_) => "cut short",
-            Refusal::LeftOver(_) => "bytes left over",
-            Refusal::UnknownOperation(_) => "unknown operation",
-            Refusal::TooManyLists(_) => "too many lists",
-            Refusal::NotTwoLists(_) => "not two lists",
-            Refusal::UnknownCombiner(_) => "unknown combiner",
-            Refusal::TooManyRanges(_) => "too many ranges",
-        };
-        write!(f, "{what} at byte {}", self.number())
-    }
-}
-
-impl Error for Refusal {}

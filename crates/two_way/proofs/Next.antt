@@ -13,7 +13,7 @@ use Rattle.rules.specs.TwoWay.{keeps}
 use Rattle.rules.specs.declared.Pairing.{Pairing}
 use Rattle.rules.specs.declared.Pairing.TheVariants.{Inner, Left, Full}
 use Rattle.rules.proofs.At.{at_in, at_after, at_early, le_or_lt}
-use Rattle.rules.proofs.Same.{None≢Some}
+use Rattle.std.proofs.lemmas.Option.{none-some}
 use Rattle.rules.proofs.TwoWay.{within_low}
 use Rattle.two_way.specs.Sides.{of_left, of_right, of_both, here, View, side, onward, Two, start_at, end_at, stop, left_of, right_of, remains}
 use Rattle.two_way.specs.Steps.{Before, Fresh, Ready, Taken, Stepped}
@@ -78,7 +78,7 @@ module _ {P : Type 0} (t : Two P) where
       where
         edge : (end_at t x.at ≤ y.start - 1) ⊎ (y.start - 1 < end_at t x.at) → at (list a (Some x)) (q + 1) ≡ Some x.at → at (list b (Some y)) (q + 1) ≡ None → ⊥
         edge (inl k) g n = ends a x u q (omega arith) g
-        edge (inr k) g n = None≢Some _ (sym n ∙ at_in (own y) (after b y) (q + 1) (omega arith) (omega (arith, w.1)))
+        edge (inr k) g n = none-some _ (sym n ∙ at_in (own y) (after b y) (q + 1) (omega arith) (omega (arith, w.1)))
 
 -- both lists have a range left, which ends at le and at re
 pub record Ranges {P : Type 0} (t : Two P) (c : View) (x y : Side) (le re : ℕ) : Type 0 where

@@ -13,7 +13,7 @@ use Rattle.rules.specs.Proving.Below.{Below}
 use Rattle.rules.specs.declared.Pairing.{Pairing}
 use Rattle.rules.specs.declared.Pairing.TheVariants.{Inner, Left, Full}
 use Rattle.rules.proofs.At.{at_in, at_before, at_after, at_late, le_or_lt}
-use Rattle.rules.proofs.Same.{None≢Some}
+use Rattle.std.proofs.lemmas.Option.{none-some}
 use Rattle.rules.proofs.TwoWay.{paired_cut, paired_only}
 
 module _ {A : Type 0} where
@@ -24,7 +24,7 @@ module _ {A : Type 0} where
     where
       go : (c ≤ x.start) ⊎ (x.start < c) → c ≤ x.start
       go (inl l) = l
-      go (inr l) = absurd (None≢Some x.value (sym (g x.start l) ∙ at_in x xs x.start (omega arith) w.1))
+      go (inr l) = absurd (none-some x.value (sym (g x.start l) ∙ at_in x xs x.start (omega arith) w.1))
 
   apart_from : (b n c : ℕ) (v : A) (xs : List (Piece A)) → Within b n xs → (at xs c ≡ Some v → ⊥) → Apart c v xs
   apart_from b n c v [] w g = tt
@@ -48,7 +48,7 @@ module _ {B : Type 0} (n p q : ℕ) (v : B) (f g : ℕ → Option B) (s : Peels 
   peel_edge e = go (le_or_lt n (q + 1))
     where
       go : (n ≤ q + 1) ⊎ (q + 1 < n) → ⊥
-      go (inl m) = None≢Some v (sym (at_late 0 n ys b.canonical.0 (q + 1) m) ∙ e)
+      go (inl m) = none-some v (sym (at_late 0 n ys b.canonical.0 (q + 1) m) ∙ e)
       go (inr m) = s.edge (sym (s.kept (q + 1) (omega arith)) ∙ sym (b.agrees (q + 1) m) ∙ e)
 
   peel_at : (z : ℕ) → z < n → at (piece ∷ ys) z ≡ f z
@@ -77,7 +77,7 @@ said_back o a b m e = go (keeps o (a, b)) e
   where
     go : (t : Bool) → cond t (Some (a, b)) None ≡ Some m → (a ≡ m.0) × (b ≡ m.1)
     go true e = let k : ◌≡◌ {A = Match} (a, b) m = cc in (ap (λ (m : Match). m.0) k, ap (λ (m : Match). m.1) k)
-    go false e = absurd (None≢Some m e)
+    go false e = absurd (none-some m e)
 
 -- nothing is said of what neither list has
 pub said_nothing : (o : Pairing) → said o None None ≡ None

@@ -15,7 +15,7 @@ use Rattle.rules.specs.Piece.{Piece, at, Within}
 use Rattle.rules.specs.Lists.{Width, keys, range, ranges}
 use Rattle.rules.proofs.At.{at_in, at_before, at_after, at_early, within_le, le_or_lt}
 use Rattle.rules.proofs.Columns.{ranges_done}
-use Rattle.rules.proofs.Same.{None≢Some}
+use Rattle.std.proofs.lemmas.Option.{none-some}
 use Rattle.two_way.specs.Sides.{here, side, onward, past}
 use Rattle.two_way.specs.Steps.{Before, Fresh}
 use Rattle.two_way.specs.declared.Side.{Side}
@@ -43,7 +43,7 @@ here_before stop c = go (ltb c.at stop) refl
 module _ (s e : ℕ → ℕ) (stop : ℕ) where
   -- the places rise
   at_ranges : (i n q k : ℕ) → at (ranges s e (λ j. j) i n) q ≡ Some k → i ≤ k
-  at_ranges i zero q k h = absurd (None≢Some k h)
+  at_ranges i zero q k h = absurd (none-some k h)
   at_ranges i (suc n) q k h = go (λ g. at_ranges (suc i) n q k g) (le_or_lt (s i) q) (le_or_lt q (e i))
     where
       x : Piece ℕ

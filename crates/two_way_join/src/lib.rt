@@ -1,4 +1,4 @@
-// The two-way joins over lent columns: inner, left and full.
+// The two-way joins over lent columns: inner, left and full, each a call of one join by the name that README and C have for it.
 
 #![tactic(auto)]
 

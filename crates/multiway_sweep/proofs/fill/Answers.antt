@@ -5,7 +5,7 @@ use Rattle.multiway_sweep.proofs.fill.Goals as goal
 use Rattle.multiway_sweep.proofs.fill.Goals.{then-from-stop, else-from-stop}
 
 pub loop-k-init : goal.loop-k-init
-loop-k-init g c = laid_none _ _ c.requires.fits.0 c.requires.fits.1 c.told-courses c.requires.empty
+loop-k-init g c = laid_none _ _ c.requires.0 c.requires.1 c.told-courses c.new.ensures
 
 pub overflow_add-stop : goal.overflow_add-stop
 overflow_add-stop g c = let l = laid_within _ _ c.loop-k.invariant c.loop-k-test.true in omega arith
