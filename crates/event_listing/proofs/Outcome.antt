@@ -19,6 +19,13 @@ use Rattle.multiway_sweep.specs.Begins.{events_of}
 use Rattle.multiway_sweep.proofs.Begun.{events_count}
 use Rattle.event_listing.specs.Listing.{answer_for, Listable, Wrote}
 
+-- the columns d hold what the columns c hold, each for itself
+abbrev Alike : {P : Type 0} → Listed P → Listed P → Type 0
+Alike d c = (d.kind ≡ c.kind) × (d.point ≡ c.point) × (d.list ≡ c.list) × (d.value ≡ c.value)
+
+given_back : {P : Type 0} {c d : Listed P} → Alike d c → d ≡ c
+given_back h i = record { kind = h.0 i; point = h.1 i; list = h.2 i; value = h.3 i }
+
 module _ {P : Type 0} (w : Width P) (l : Lent P) where
   pub refused : {r : Refusal} {c : Listed P} → Judged w Listing l (Err r) → leaves (Err r) c ≡ listing w l c
   unfolding listing
@@ -54,9 +61,10 @@ module _ {P : Type 0} (w : Width P) (l : Lent P) where
       pub listable : {k : ℕ} → Ok k ≡ answer_for needed m → Listable w l c
       listable d = record { formed = judged.passes refl; enough = omega (arith, count, (enough d).0) }
 
-      pub written : {k : ℕ} → Ok k ≡ answer_for needed m → {o : Listed P} → Wrote w l c o → leaves (Ok k) o ≡ listing w l c
+      -- d is what the columns hold when they are given back
+      pub written : {k : ℕ} → Ok k ≡ answer_for needed m → {o : Listed P} → Wrote w l c o → {d : Listed P} → Alike d o → leaves (Ok k) d ≡ listing w l c
       unfolding listing
-      written d o = rw ((enough d).1, h, le-leb (length (events_of w l)) (room c) (omega (arith, count, (enough d).0)), o.is, count)
+      written d o s = rw (given_back s, (enough d).1, h, le-leb (length (events_of w l)) (room c) (omega (arith, count, (enough d).0)), o.is, count)
 
       pub no_room : {x : Refusal} → Err x ≡ answer_for needed m → leaves (Err x) c ≡ listing w l c
       unfolding listing

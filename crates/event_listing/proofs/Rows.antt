@@ -25,8 +25,9 @@ use Rattle.multiway_sweep.specs.declared.Event.{Event}
 use Rattle.multiway_sweep.specs.declared.Sweep.{Sweep}
 use Rattle.rules.proofs.Refusals.{lists_formed}
 use Rattle.multiway_sweep.proofs.Begun.{events_count, begun}
-use Rattle.event_listing.specs.Listing.{RowOf, Writable, PutRow, Listable, Wrote}
+use Rattle.event_listing.specs.Listing.{RowOf, Same, Writable, PutRow, Listable, Wrote}
 use Rattle.event_listing.specs.declared.Row.{Row}
+use Rattle.event_listing.specs.declared.Columns.{Columns}
 
 module _ {A : Type 0} where
   -- an event's point is one of n, and its list one of m
@@ -40,6 +41,14 @@ module _ {A : Type 0} where
   events_small : (n : ℕ) (ls : List (List (Piece A))) → AllWellFormed n ls → All (Small n (length ls)) (events ls)
   unfolding events
   events_small n ls w = all_sort _ (listed 0 ls) (listed_small 0 n (length ls) ls w (omega arith))
+
+-- the columns are lent by the same throughout
+module _ {P : Type 0} where
+  pub same_none : (a : Columns P) → Same a a
+  same_none a = record { kind = refl; point = refl; list = refl; value = refl }
+
+  pub same_more : {a b c : Columns P} → Same a b → Same b c → Same a c
+  same_more s t = record { kind = t.kind ∙ s.kind; point = t.point ∙ s.point; list = t.list ∙ s.list; value = t.value ∙ s.value }
 
 -- n events are written, and the sweep s stands before the rest
 pub record Written {P : Type 0} (w : Width P) (l : Lent P) (c d : Listed P) (s : Sweep) (n : ℕ) : Type 0 where

@@ -5,11 +5,11 @@
 ghost use Rattle.std.specs.Prelude.{◌*◌, ◌^◌, ◌<◌, ◌≡◌};
 ghost use Rattle.rules.specs.Lists.{held};
 ghost use Rattle.rules.specs.Sweep.{list};
-ghost use Rattle.rules.specs.Listed.{output, before, after};
+ghost use Rattle.rules.specs.Listed.{before, after};
 ghost use Rattle.rules.specs.Outcomes.{listing};
 ghost use Rattle.rules.specs.Answer.{leaves};
 ghost use Rattle.multiway_sweep.specs.Steps.{event_of};
-ghost use Rattle.event_listing.specs.Listing.{RowOf, answer_for, Writable, PutRow, Listable, Wrote};
+ghost use Rattle.event_listing.specs.Listing.{RowOf, answer_for, columns_of, Same, Writable, PutRow, Listable, Wrote};
 
 use form::judge;
 use heap::Heap;
@@ -61,38 +61,32 @@ pub fn answer_for(ranges: usize, room: usize) -> Result<usize, Refusal>
     }
 }
 
-// Writes a row at a place of the columns, which are lent one by one: a struct of columns to be written can not be lent on.
-fn put_row<P: Integer>(
-    place: usize,
-    row: Row,
-    out_kind: &mut [u8],
-    out_point: &mut [P],
-    out_list: &mut [u8],
-    out_value: &mut [i32],
-)
-    requires { Writable P.width place row (output out_kind out_point out_list out_value) }
-    ensures { let c = before out_kind out_point out_list out_value in
-        let d = after out_kind out_point out_list out_value in
-        PutRow P.width place row c d }
+// The columns that the events are written to.
+#[derive(Drop)]
+struct Columns<'a, P> {
+    kind: &'a mut [u8],
+    point: &'a mut [P],
+    list: &'a mut [u8],
+    value: &'a mut [i32],
+}
+
+// Writes a row at a place of the columns.
+fn put_row<P: Integer>(out: &mut Columns<P>, place: usize, row: Row)
+    requires { Writable P.width place row (columns_of out.old) }
+    ensures put { PutRow P.width place row (columns_of out.old) (columns_of out.new) }
+    ensures same { Same out.old out.new }
 {
-    out_kind[place] = row.kind;
-    put_key(out_point, place, row.key);
-    out_list[place] = row.list;
-    out_value[place] = row.value;
+    out.kind[place] = row.kind;
+    put_key(out.point, place, row.key);
+    out.list[place] = row.list;
+    out.value[place] = row.value;
 }
 
 // Writes all events at the front of the columns, which have room for them: two for each range.
-fn write_events<P: Integer>(
-    lent: Lists<P>,
-    out_kind: &mut [u8],
-    out_point: &mut [P],
-    out_list: &mut [u8],
-    out_value: &mut [i32],
-)
-    requires { Listable P.width (held lent) (output out_kind out_point out_list out_value) }
-    ensures { let c = before out_kind out_point out_list out_value in
-        let d = after out_kind out_point out_list out_value in
-        Wrote P.width (held lent.entry) c d }
+fn write_events<P: Integer>(lent: Lists<P>, out: &mut Columns<P>)
+    requires { Listable P.width (held lent) (columns_of out.old) }
+    ensures wrote { Wrote P.width (held lent.entry) (columns_of out.old) (columns_of out.new) }
+    ensures same { Same out.old out.new }
 {
     let mut courses = NO_COURSES;
     let mut starts = Heap::new();
@@ -103,7 +97,7 @@ fn write_events<P: Integer>(
             unreachable!()
         };
         let row = row_of(event);
-        put_row(place, row, out_kind, out_point, out_list, out_value);
+        put_row(out, place, row);
     }
 }
 
@@ -126,6 +120,12 @@ pub fn list_events<P: Integer>(
         .min(out_list.len())
         .min(out_value.len());
     let events = answer_for(lent.starts.len(), room)?;
-    write_events(lent, out_kind, out_point, out_list, out_value);
+    let mut out = Columns {
+        kind: out_kind,
+        point: out_point,
+        list: out_list,
+        value: out_value,
+    };
+    write_events(lent, &mut out);
     Ok(events)
 }

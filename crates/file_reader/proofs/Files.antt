@@ -57,10 +57,10 @@ module _ (s : List ℕ) (short : length s ≤ 45126) where
           go [] q l = absurd (omega arith)
           go (x ∷ r) q l = read (x ∷ r) q
 
-      -- the counts stand at the front of theirs
-      pub file_held : length past.bytes.now ≡ 0 → (more : List ℕ) → length e ≡ n →
-          Lends s (record { head = h; ranges = m }) (record { starts = c.start; ends = c.end; values = c.value; counts = e ++ more })
-      file_held l more y =
+      -- the columns are given back, and the counts stand at the front of theirs
+      pub file_held : length past.bytes.now ≡ 0 → (more : List ℕ) → length e ≡ n → {x y z : List ℤ} → (x ≡ c.start) × (y ≡ c.end) × (z ≡ c.value) →
+          Lends s (record { head = h; ranges = m }) (record { starts = x; ends = y; values = z; counts = e ++ more })
+      file_held l more q back =
           let p = found.put in
           let w : m ≡ 0 + length (flat found.value) = omega (arith, p.long) in
           let v : h.lists ≡ 0 + length found.value = omega (arith, p.many) in
@@ -73,9 +73,9 @@ module _ (s : List ℕ) (short : length s ≤ 45126) where
             all_lists = p.many ∙ z;
             all_ranges = p.long;
             lent = λ i. record {
-              starts = (ap (λ (j : ℕ). take j c.start) w ∙ p.took.starts) i;
-              ends = (ap (λ (j : ℕ). take j c.end) w ∙ p.took.ends) i;
-              values = (ap (λ (j : ℕ). take j c.value) w ∙ p.took.values) i;
+              starts = (ap (take m) back.0 ∙ ap (λ (j : ℕ). take j c.start) w ∙ p.took.starts) i;
+              ends = (ap (take m) back.1 ∙ ap (λ (j : ℕ). take j c.end) w ∙ p.took.ends) i;
+              values = (ap (take m) back.2 ∙ ap (λ (j : ℕ). take j c.value) w ∙ p.took.values) i;
               counts = (take-append-le h.lists e more (omega arith) ∙ ap (λ (j : ℕ). take j e) v ∙ p.counts) i;
             };
           }

@@ -19,7 +19,7 @@ use Rattle.tariff_file.specs.declared.Refusal.TheVariants.{TooManyRanges}
 use Rattle.file_records.specs.Ends.{reads, Got, Marked}
 use Rattle.file_records.specs.Columns.{Took}
 use Rattle.file_records.specs.declared.rest.Rest.{Rest}
-use Rattle.file_records.proofs.Columns.{laid_one, laid_more, took_more}
+use Rattle.file_records.proofs.Taken.{laid_one, laid_more, took_more}
 use Rattle.file_records.proofs.Turns.{Going, going_more, going_stops, going_last}
 use Rattle.file_reader.specs.Fills.{Counted, Gathered}
 

@@ -3,13 +3,14 @@
 #![tactic(auto)]
 
 ghost use Rattle.std.specs.Prelude.{◌≤◌, length};
-ghost use Rattle.rules.specs.Merged.{output, before, after, room};
+ghost use Rattle.rules.specs.Merged.{room};
 ghost use Rattle.tariff_file.specs.File.{read_list, read_lists};
+ghost use Rattle.file_records.specs.Columns.{columns_of, Same};
 ghost use Rattle.file_reader.specs.Fills.{Fills, Counted, Gathered};
 ghost use Rattle.file_reader.specs.Holds.{Holds};
 
 use file_head::{Head, head_at};
-use file_records::{Rest, big_endian, read_ranges};
+use file_records::{Columns, Rest, big_endian, read_ranges};
 use rules::MAX_RANGES;
 use tariff_file::{MAX_BYTES, Refusal};
 
@@ -25,17 +26,16 @@ pub struct Contents {
     pub ranges: usize,
 }
 
-// A list that comes after so many ranges, into the columns from there on: what is left behind it, and its count. The columns stay
-// apart: a struct that holds them as `&mut` can not be lent on in a loop.
+// A list that comes after so many ranges, into the columns from there on: what is left behind it, and its count.
 fn read_list<'a>(
     from: Rest<'a>,
     prior: usize,
-    starts: &mut [i64],
-    ends: &mut [i64],
-    values: &mut [i32],
+    columns: &mut Columns,
 ) -> Result<(Rest<'a>, usize), Refusal>
-    requires { (prior ≤ 2048) × (2048 ≤ room (output starts ends values)) }
-    ensures { Fills (read_list prior) from.entry (Counted prior (before starts ends values) (after starts ends values)) result }
+    requires { (prior ≤ 2048) × (2048 ≤ room (columns_of columns.old)) }
+    ensures read { let counted = Counted prior (columns_of columns.old) (columns_of columns.new) in
+        Fills (read_list prior) from.entry counted result }
+    ensures same { Same columns.old columns.new }
 {
     let ranges = from.record_at(LIST, LIST_SIZE)?;
     let count = big_endian(&from.bytes[2..4]) as usize;
@@ -43,26 +43,25 @@ fn read_list<'a>(
     if left < count {
         return Err(Refusal::TooManyRanges(from.at));
     }
-    let rest = read_ranges(ranges, count, prior, starts, ends, values)?;
+    let rest = read_ranges(ranges, count, prior, columns)?;
     Ok((rest, count))
 }
 
 // As many lists as there are counts, into the columns and their counts: what is left behind them, and how many ranges they have.
 fn read_lists<'a>(
     from: Rest<'a>,
-    starts: &mut [i64],
-    ends: &mut [i64],
-    values: &mut [i32],
+    columns: &mut Columns,
     counts: &mut [u32],
 ) -> Result<(Rest<'a>, usize), Refusal>
-    requires { 2048 ≤ room (output starts ends values) }
-    ensures { let c = Gathered (length counts.old) (before starts ends values) (after starts ends values) counts.old counts.new in
+    requires { 2048 ≤ room (columns_of columns.old) }
+    ensures read { let c = Gathered (length counts.old) (columns_of columns.old) (columns_of columns.new) counts.old counts.new in
         Fills (read_lists (length counts.old) 0) from.entry c result }
+    ensures same { Same columns.old columns.new }
 {
     let mut rest = from;
     let mut ranges = 0;
     for count in counts.iter_mut() {
-        let (past, n) = read_list(rest, ranges, starts, ends, values)?;
+        let (past, n) = read_list(rest, ranges, columns)?;
         *count = n as u32;
         rest = past;
         ranges += n;
@@ -84,7 +83,12 @@ pub fn read_file(
         return Err(Refusal::TooLong);
     }
     let (head, lists) = head_at(file)?;
-    let (rest, ranges) = read_lists(lists, starts, ends, values, &mut counts[..head.lists])?;
+    let mut columns = Columns {
+        starts,
+        ends,
+        values,
+    };
+    let (rest, ranges) = read_lists(lists, &mut columns, &mut counts[..head.lists])?;
     if !rest.bytes.is_empty() {
         return Err(Refusal::LeftOver(rest.at));
     }

@@ -17,7 +17,7 @@ use Rattle.tariff_file.specs.declared.Refusal.{Refusal}
 use Rattle.file_records.specs.Ends.{reads, Got, Marked}
 use Rattle.file_records.specs.declared.rest.Rest.{Rest}
 use Rattle.file_records.specs.Columns.{Took}
-use Rattle.file_records.proofs.Columns.{took_one, took_more}
+use Rattle.file_records.proofs.Taken.{took_one, took_more}
 use Rattle.file_records.proofs.Turns.{Going, going_more, going_stops, going_last}
 
 module _ (from : Rest) where

@@ -1,7 +1,19 @@
 -- Columns that take what is read from a place on. Assumes nothing.
 use Rattle.std.specs.Prelude.{ℕ, ◌+◌, ◌≡◌, List, ◌++◌, map, ℤ, length, take}
-use Rattle.rules.specs.Merged.{Merged}
+use Rattle.rules.specs.Merged.{Merged, output, lengths}
 use Rattle.many_way_rules.specs.Sheet.{Tariff}
+use Rattle.file_records.specs.declared.Columns.{Columns}
+
+-- what the columns hold
+abbrev pub columns_of : Columns → Merged ℤ
+columns_of c = output c.starts c.ends c.values
+
+-- d has the columns that c has, lent by the same and as long
+pub record Same (c d : Columns) : Type 0 where
+  pub starts : d.starts.ghost_name ≡ c.starts.ghost_name
+  pub ends : d.ends.ghost_name ≡ c.ends.ghost_name
+  pub values : d.values.ghost_name ≡ c.values.ghost_name
+  pub long : lengths (columns_of d) ≡ lengths (columns_of c)
 
 -- after the first n places, which are kept, stands what f takes of each of xs
 abbrev pub Laid : {A R : Type 0} → (R → A) → ℕ → List R → List A → List A → Type 0

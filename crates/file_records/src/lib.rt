@@ -3,11 +3,11 @@
 #![tactic(auto)]
 
 ghost use Rattle.std.specs.Prelude.{◌+◌, ◌^◌, ◌≤◌, ◌<◌, ◌≡◌, [], ◌∷◌, length};
-ghost use Rattle.rules.specs.Merged.{output, before, after, room};
+ghost use Rattle.rules.specs.Merged.{room};
 ghost use Rattle.tariff_file.specs.Layout.{number};
 ghost use Rattle.tariff_file.specs.File.{read_range, read_ranges};
 ghost use Rattle.file_records.specs.Ends.{Ends};
-ghost use Rattle.file_records.specs.Columns.{Took};
+ghost use Rattle.file_records.specs.Columns.{columns_of, Same, Took};
 
 mod rest;
 
@@ -29,41 +29,43 @@ pub fn big_endian(bytes: &[u8]) -> u64
     u64::from_be_bytes(padded)
 }
 
-// A range, into a place of the columns, which stay apart: a struct that holds them as `&mut` can not be lent on in a loop.
-fn read_range<'a>(
-    from: Rest<'a>,
-    place: usize,
-    starts: &mut [i64],
-    ends: &mut [i64],
-    values: &mut [i32],
-) -> Result<Rest<'a>, Refusal>
-    requires { place < room (output starts ends values) }
-    ensures { let took = Took place (before starts ends values) (after starts ends values) in
+// The columns that ranges are read into. They have a fixed room, as there is no heap.
+#[derive(Drop)]
+pub struct Columns<'a> {
+    pub starts: &'a mut [i64],
+    pub ends: &'a mut [i64],
+    pub values: &'a mut [i32],
+}
+
+// A range, into a place of the columns.
+fn read_range<'a>(from: Rest<'a>, place: usize, columns: &mut Columns) -> Result<Rest<'a>, Refusal>
+    requires { place < room (columns_of columns.old) }
+    ensures read { let took = Took place (columns_of columns.old) (columns_of columns.new) in
         Ends read_range from.entry (λ x. took (x ∷ [])) result }
+    ensures same { Same columns.old columns.new }
 {
     let rest = from.record_at(RANGE, RANGE_SIZE)?;
-    starts[place] = big_endian(&from.bytes[2..10]).cast_signed();
-    ends[place] = big_endian(&from.bytes[10..18]).cast_signed();
-    values[place] = (big_endian(&from.bytes[18..22]) as u32).cast_signed();
+    columns.starts[place] = big_endian(&from.bytes[2..10]).cast_signed();
+    columns.ends[place] = big_endian(&from.bytes[10..18]).cast_signed();
+    columns.values[place] = (big_endian(&from.bytes[18..22]) as u32).cast_signed();
     Ok(rest)
 }
 
-// So many ranges, into the columns from a place on: the columns have a fixed room, as there is no heap.
+// So many ranges, into the columns from a place on.
 pub fn read_ranges<'a>(
     from: Rest<'a>,
     n: usize,
     place: usize,
-    starts: &mut [i64],
-    ends: &mut [i64],
-    values: &mut [i32],
+    columns: &mut Columns,
 ) -> Result<Rest<'a>, Refusal>
-    requires { place + n ≤ room (output starts ends values) }
-    ensures { let took = Took place (before starts ends values) (after starts ends values) in
+    requires { place + n ≤ room (columns_of columns.old) }
+    ensures read { let took = Took place (columns_of columns.old) (columns_of columns.new) in
         Ends (read_ranges n) from.entry (λ l. (length l ≡ n) × took l) result }
+    ensures same { Same columns.old columns.new }
 {
     let mut rest = from;
     for i in 0..n {
-        rest = read_range(rest, place + i, starts, ends, values)?;
+        rest = read_range(rest, place + i, columns)?;
     }
     Ok(rest)
 }

@@ -1,4 +1,6 @@
 -- `list_events` meets its contract. Assumes nothing.
+use mathlib.Core.Path.{sym}
+use borrow.Author.Rules.{rules}
 use Rattle.std.proofs.Common.{arith}
 use Rattle.std.proofs.lemmas.Result.{err_from_is_err_and}
 use Rattle.rules.specs.Lists.{held}
@@ -19,4 +21,7 @@ pub write_events-requires : goal.write_events-requires
 write_events-requires g c = listable g.P.Integer.width (held c.args.lent) c.in_ok-judge.ensures _ (omega arith) c.in_ok-events.ensures
 
 pub returns : goal.returns
-returns g c = written g.P.Integer.width (held c.args.lent) c.in_ok-judge.ensures _ (omega arith) c.in_ok-events.ensures c.write_events.ensures
+returns g c =
+    let same = c.write_events.ensures.same in
+    let all = written g.P.Integer.width (held c.args.lent) c.in_ok-judge.ensures _ (omega arith) c.in_ok-events.ensures c.write_events.ensures.wrote in
+    all (search (rules, sym same.kind), search (rules, sym same.point), search (rules, sym same.list), search (rules, sym same.value))

@@ -1,5 +1,6 @@
 -- `file_reader::read_file` meets its contract. Assumes nothing.
 use native.Mathlib.Omega.{arith}
+use borrow.Author.Rules.{rules}
 use lib.Seq.{length-take-le}
 use Rattle.std.proofs.lemmas.Bool.Decides.{nat_tests}
 use Rattle.std.proofs.lemmas.Result.{err_from_is_err_and}
@@ -18,14 +19,15 @@ pub returns-in_err-rest : goal.returns-in_err-rest
 returns-in_err-rest c =
     let p = err_from_is_err_and c.from_residual-in_err-rest.result c.from_residual-in_err-rest.ensures.1 in
     let h = c.in_ok-head in
-    rw (p.1, p.2) (file_stops _ c.if-file-gt-MAX_BYTES.false h.head h.lists h.ensures _ (length-take-le h.head.lists c.args.counts.now (omega (arith, h.ensures.few))) c.in_err-rest.ensures)
+    rw (p.1, p.2) (file_stops _ c.if-file-gt-MAX_BYTES.false h.head h.lists h.ensures _ (length-take-le h.head.lists c.args.counts.now (omega (arith, h.ensures.few))) c.in_err-rest.ensures.read)
 
 pub returns-then-not-is_empty : goal.returns-then-not-is_empty
 returns-then-not-is_empty c =
     let h = c.in_ok-head in
-    file_over _ c.if-file-gt-MAX_BYTES.false h.head h.lists h.ensures _ (length-take-le h.head.lists c.args.counts.now (omega (arith, h.ensures.few))) _ _ _ _ _ _ c.in_ok-rest.ensures (grind (arith, nat_tests, c.if-not-is_empty.ensures))
+    file_over _ c.if-file-gt-MAX_BYTES.false h.head h.lists h.ensures _ (length-take-le h.head.lists c.args.counts.now (omega (arith, h.ensures.few))) _ _ _ _ _ _ c.in_ok-rest.ensures.read (grind (arith, nat_tests, c.if-not-is_empty.ensures))
 
 pub returns : goal.returns
 returns c =
     let h = c.in_ok-head in
-    file_held _ c.if-file-gt-MAX_BYTES.false h.head h.lists h.ensures _ (length-take-le h.head.lists c.args.counts.now (omega (arith, h.ensures.few))) _ _ _ _ _ _ c.in_ok-rest.ensures (grind (arith, nat_tests, c.if-not-is_empty.ensures)) _ (grind arith)
+    file_held _ c.if-file-gt-MAX_BYTES.false h.head h.lists h.ensures _ (length-take-le h.head.lists c.args.counts.now (omega (arith, h.ensures.few))) _ _ _ _ _ _ c.in_ok-rest.ensures.read (grind (arith, nat_tests, c.if-not-is_empty.ensures)) _ (grind arith)
+    (search rules, search rules, search rules)

@@ -1,15 +1,27 @@
 -- What columns take, one after the other, they take together. Assumes nothing.
 use Prim.Native.Nat.{ℕ, ◌+◌, ◌<◌}
-use mathlib.Core.Path.{◌≡◌, sym, ap, ◌∙◌}
+use mathlib.Core.Path.{◌≡◌, refl, sym, ap, ◌∙◌}
 use mathlib.Core.List.{List, [], ◌∷◌, ◌++◌, map, map-append, append_assoc}
 use native.Mathlib.Omega.{arith}
 use native.Mathlib.Numerals.{add-one}
 use lib.IntN.{ℤ}
 use lib.ListN.{length, take, set, length-append}
 use lib.Seq.{take-suc-set}
-use Rattle.rules.specs.Merged.{Merged, room}
+use Rattle.std.proofs.lemmas.List.{length-set}
+use Rattle.rules.specs.Merged.{Merged, lengths, room}
 use Rattle.many_way_rules.specs.Sheet.{Typed, Tariff}
-use Rattle.file_records.specs.Columns.{Laid, Took}
+use Rattle.file_records.specs.Columns.{Same, Laid, Took}
+use Rattle.file_records.specs.declared.Columns.{Columns}
+
+-- columns that are lent by the same throughout
+pub same_none : (c : Columns) → Same c c
+same_none c = record { starts = refl; ends = refl; values = refl; long = refl }
+
+pub same_more : {b c d : Columns} → Same b c → Same c d → Same b d
+same_more s t = record { starts = t.starts ∙ s.starts; ends = t.ends ∙ s.ends; values = t.values ∙ s.values; long = t.long ∙ s.long }
+
+pub set_long : (b : Merged ℤ) (n : ℕ) (x y z : ℤ) → lengths (record { start = set b.start n x; end = set b.end n y; value = set b.value n z }) ≡ lengths b
+set_long b n x y z i = length-set b.start n x i ∷ length-set b.end n y i ∷ length-set b.value n z i ∷ []
 
 module _ {A R : Type 0} (f : R → A) (n : ℕ) where
   pub laid_one : (x : R) (b : List A) (a : A) → n < length b → a ≡ f x → Laid f n (x ∷ []) b (set b n a)
