@@ -1,5 +1,5 @@
-// The many-way joins and selections: inner and full join, union and symmetric difference, each by its name. A combiner is told by its number, as
-// C hands it over; columns that are written stay apart, as they are lent on one by one.
+// The many-way joins and selections: inner and full join, union and symmetric difference, each by its name. A combiner is told by its number, and
+// the columns that are written are lent one by one, as C hands them over.
 
 #![tactic(auto)]
 
