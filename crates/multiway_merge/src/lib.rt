@@ -5,16 +5,17 @@
 ghost use Rattle.std.specs.Prelude.{◌≡◌, []};
 ghost use Rattle.rules.specs.Lists.{lists, held};
 ghost use Rattle.rules.specs.Answer.{leaves};
-ghost use Rattle.rules.specs.Merged.{output, before, after, room, lay};
+ghost use Rattle.rules.specs.Merged.{before, after, room, lay};
 ghost use Rattle.many_way_rules.specs.Operations.{kind_of, rule_of, merged};
 ghost use Rattle.many_way_rules.specs.Outcomes.{merging};
-ghost use Rattle.multiway_pass.specs.Passes.{PutPieces, Mergeable};
+ghost use Rattle.multiway_pass.specs.Passes.{Mergeable};
+ghost use Rattle.multiway_pass.specs.Outputs.{columns_of, Same, Puts};
 ghost use Rattle.multiway_merge.specs.Zero.{of_none};
 
 use form::judge;
 use integer::Integer;
 use many_way_rules::{Operation, known};
-use multiway_pass::{Piece, pass as join_pass, put, rule_on};
+use multiway_pass::{Output, Piece, pass as join_pass, put, rule_on};
 use passes::run;
 use rules::{Kind, Lists, Refusal};
 use select_pass::pass as selection_pass;
@@ -41,17 +42,15 @@ pub fn rule_on_none(operation: Operation) -> Option<i64>
     }
 }
 
-// Zero lists: what an operation says of no lists it says of the whole line. Here and below the columns are lent one by one, since a struct
-// of `&mut` slices can not be lent on.
+// Zero lists: what an operation says of no lists it says of the whole line.
 fn of_none<P: Integer>(
     operation: Operation,
     space: usize,
-    out_start: &mut [P],
-    out_end: &mut [P],
-    out_value: &mut [i64],
+    out: &mut Output<P>,
 ) -> Result<usize, Refusal>
-    requires { space ≡ room (output out_start out_end out_value) }
-    ensures { leaves result (after out_start out_end out_value) ≡ of_none P.width operation (before out_start out_end out_value) }
+    requires { space ≡ room (columns_of out.old) }
+    ensures same { Same out.old out.new }
+    ensures leaves { leaves result (columns_of out.new) ≡ of_none P.width operation (columns_of out.old) }
 {
     let greatest = P::greatest_key();
     let Some(value) = rule_on_none(operation) else {
@@ -65,34 +64,24 @@ fn of_none<P: Integer>(
         end: greatest,
         value,
     };
-    Ok(put(true, 0, Some(whole), out_start, out_end, out_value))
+    Ok(put(true, 0, Some(whole), out))
 }
 
 // One pass over the lists: how many pieces there are. They are written where `write` says so, a flag: a closure that writes would hold
 // the columns, and its contract would say the same.
-fn pass<P: Integer>(
-    operation: Operation,
-    lent: Lists<P>,
-    write: bool,
-    out_start: &mut [P],
-    out_end: &mut [P],
-    out_value: &mut [i64],
-) -> usize
-    requires { Mergeable P.width operation (held lent) write (output out_start out_end out_value) }
+fn pass<P: Integer>(operation: Operation, lent: Lists<P>, write: bool, out: &mut Output<P>) -> usize
+    requires { Mergeable P.width operation (held lent) write (columns_of out.old) }
     ensures { let xs = merged operation P.width.points (lists P.width (held lent.entry)) in
-        PutPieces (lay P.width) write 0 xs (before out_start out_end out_value) (after out_start out_end out_value) result }
+        Puts (lay P.width) write 0 xs out.old out.new result }
 {
     match operation {
-        Operation::Join(admission, combiner) => join_pass(
-            admission, combiner, lent, write, out_start, out_end, out_value,
-        ),
-        Operation::Select(_, admission) => {
-            selection_pass(admission, lent, write, out_start, out_end, out_value)
-        }
+        Operation::Join(admission, combiner) => join_pass(admission, combiner, lent, write, out),
+        Operation::Select(_, admission) => selection_pass(admission, lent, write, out),
     }
 }
 
-// A many-way join or selection of the lists that are lent: what is refused, or all pieces, where there is room for them.
+// A many-way join or selection of the lists that are lent: what is refused, or all pieces, where there is room for them. The closure holds
+// the columns apart: of those in a struct that it held nothing would be known after the passes.
 pub fn merge_lists<P: Integer>(
     operation: Operation,
     lent: Lists<P>,
@@ -106,8 +95,20 @@ pub fn merge_lists<P: Integer>(
     judge(kind_of(operation), lent)?;
     let space = out_start.len().min(out_end.len().min(out_value.len()));
     if lent.counts.is_empty() {
-        return of_none(operation, space, out_start, out_end, out_value);
+        let mut out = Output {
+            start: out_start,
+            end: out_end,
+            value: out_value,
+        };
+        return of_none(operation, space, &mut out);
     }
-    let mut over = move |write: bool| pass(operation, lent, write, out_start, out_end, out_value);
+    let mut over = move |write: bool| {
+        let mut out = Output {
+            start: out_start,
+            end: out_end,
+            value: out_value,
+        };
+        pass(operation, lent, write, &mut out)
+    };
     run(lent.starts.len(), space, &mut over)
 }

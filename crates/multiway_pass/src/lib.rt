@@ -9,14 +9,15 @@ ghost use Rattle.rules.specs.Piece.{Within};
 ghost use Rattle.rules.specs.Runs.{touch};
 ghost use Rattle.rules.specs.Same.{eq_ℤ};
 ghost use Rattle.rules.specs.Lists.{lists, held};
-ghost use Rattle.rules.specs.Merged.{output, before, after, room, lay};
+ghost use Rattle.rules.specs.Merged.{room, lay};
 ghost use Rattle.many_way_rules.specs.Selections.{admitted};
 ghost use Rattle.many_way_rules.specs.Operations.{rule_of, merged};
 ghost use Rattle.many_way_rules.specs.declared.Operation.TheVariants.{Join};
 ghost use Rattle.slots.specs.Slots.{active, Counted, slots_of};
 ghost use Rattle.join_sweep.specs.Stretches.{places};
 ghost use Rattle.multiway_pass.specs.Pieces.{Present, piece_of, waiting, PushedOn};
-ghost use Rattle.multiway_pass.specs.Passes.{Puttable, PutPieces, Mergeable};
+ghost use Rattle.multiway_pass.specs.Passes.{Puttable, Mergeable};
+ghost use Rattle.multiway_pass.specs.Outputs.{columns_of, Puts};
 
 use combine::combine;
 use heap::Heap;
@@ -118,28 +119,27 @@ pub fn push_merged(pending: Option<Piece>, next: Piece) -> Pushed
     }
 }
 
-// Writes a piece that is done, if there is one, at a place of the columns, where it is to be written; the place after it.
-// The columns that are written stay three: a struct of them could not be lent on from pass to piece. Whether to write stays a flag: a
-// closure that writes would have to hold the three columns, and be told of under this same contract.
-pub fn put<P: Integer>(
-    write: bool,
-    place: usize,
-    done: Option<Piece>,
-    out_start: &mut [P],
-    out_end: &mut [P],
-    out_value: &mut [i64],
-) -> usize
-    requires { Puttable P.width.points (room (output out_start out_end out_value)) write place (waiting done) }
-    ensures { let c = before out_start out_end out_value in
-        PutPieces (lay P.width) write place (waiting done) c (after out_start out_end out_value) result }
+// The columns that pieces are written to, as they are lent.
+#[derive(Drop)]
+pub struct Output<'a, P> {
+    pub start: &'a mut [P],
+    pub end: &'a mut [P],
+    pub value: &'a mut [i64],
+}
+
+// Writes a piece that is done, if there is one, at a place of the columns, where it is to be written; the place after it. Whether to write
+// stays a flag: a closure that writes would have to hold the columns, and be told of under this same contract.
+pub fn put<P: Integer>(write: bool, place: usize, done: Option<Piece>, out: &mut Output<P>) -> usize
+    requires { Puttable P.width.points (room (columns_of out.old)) write place (waiting done) }
+    ensures { Puts (lay P.width) write place (waiting done) out.old out.new result }
 {
     let Some(piece) = done else {
         return place;
     };
     if write {
-        put_key(out_start, place, piece.start);
-        put_key(out_end, place, piece.end);
-        out_value[place] = piece.value;
+        put_key(out.start, place, piece.start);
+        put_key(out.end, place, piece.end);
+        out.value[place] = piece.value;
     }
     place + 1
 }
@@ -150,13 +150,11 @@ pub fn pass<P: Integer>(
     combiner: u8,
     lent: Lists<P>,
     write: bool,
-    out_start: &mut [P],
-    out_end: &mut [P],
-    out_value: &mut [i64],
+    out: &mut Output<P>,
 ) -> usize
-    requires { Mergeable P.width (Join admission combiner) (held lent) write (output out_start out_end out_value) }
+    requires { Mergeable P.width (Join admission combiner) (held lent) write (columns_of out.old) }
     ensures { let xs = merged (Join admission combiner) P.width.points (lists P.width (held lent.entry)) in
-        PutPieces (lay P.width) write 0 xs (before out_start out_end out_value) (after out_start out_end out_value) result }
+        Puts (lay P.width) write 0 xs out.old out.new result }
 {
     let mut courses = NO_COURSES;
     let mut starts = Heap::new();
@@ -174,9 +172,9 @@ pub fn pass<P: Integer>(
                 value,
             };
             let pushed = push_merged(pending, next);
-            count = put(write, count, pushed.done, out_start, out_end, out_value);
+            count = put(write, count, pushed.done, out);
             pending = Some(pushed.pending);
         }
     }
-    put(write, count, pending, out_start, out_end, out_value)
+    put(write, count, pending, out)
 }

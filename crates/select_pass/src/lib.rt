@@ -5,12 +5,13 @@
 
 ghost use Rattle.std.specs.Prelude.{◌≡◌, length, Some};
 ghost use Rattle.rules.specs.Lists.{lists, held};
-ghost use Rattle.rules.specs.Merged.{output, before, after, lay};
+ghost use Rattle.rules.specs.Merged.{lay};
 ghost use Rattle.many_way_rules.specs.Operations.{merged};
 ghost use Rattle.many_way_rules.specs.declared.Pick.TheVariants.{Highest};
 ghost use Rattle.many_way_rules.specs.declared.Operation.TheVariants.{Select};
 ghost use Rattle.multiway_pass.specs.Pieces.{waiting};
-ghost use Rattle.multiway_pass.specs.Passes.{PutPieces, Mergeable};
+ghost use Rattle.multiway_pass.specs.Passes.{Mergeable};
+ghost use Rattle.multiway_pass.specs.Outputs.{columns_of, Puts};
 ghost use Rattle.select_pass.specs.Stretches.{StretchesTo};
 ghost use Rattle.select_pass.specs.Selections.{Blank, Keeps, Says, Emits, Due, Takes};
 
@@ -18,7 +19,7 @@ use active_lists::Active;
 use heap::Heap;
 use integer::Integer;
 use many_way_rules::Admission;
-use multiway_pass::{Piece, admits, push_merged, put};
+use multiway_pass::{Output, Piece, admits, push_merged, put};
 use multiway_sweep::{Event, NO_COURSES, Range, SweepMut};
 use rules::Lists;
 
@@ -140,13 +141,11 @@ pub fn pass<P: Integer>(
     admission: Admission,
     lent: Lists<P>,
     write: bool,
-    out_start: &mut [P],
-    out_end: &mut [P],
-    out_value: &mut [i64],
+    out: &mut Output<P>,
 ) -> usize
-    requires { Mergeable P.width (Select Highest admission) (held lent) write (output out_start out_end out_value) }
+    requires { Mergeable P.width (Select Highest admission) (held lent) write (columns_of out.old) }
     ensures { let xs = merged (Select Highest admission) P.width.points (lists P.width (held lent.entry)) in
-        PutPieces (lay P.width) write 0 xs (before out_start out_end out_value) (after out_start out_end out_value) result }
+        Puts (lay P.width) write 0 xs out.old out.new result }
 {
     let mut courses = NO_COURSES;
     let mut starts = Heap::new();
@@ -164,9 +163,9 @@ pub fn pass<P: Integer>(
         selection.take(Some(event), P::greatest_key());
         if let Some(piece) = next {
             let pushed = push_merged(pending, piece);
-            count = put(write, count, pushed.done, out_start, out_end, out_value);
+            count = put(write, count, pushed.done, out);
             pending = Some(pushed.pending);
         }
     }
-    put(write, count, pending, out_start, out_end, out_value)
+    put(write, count, pending, out)
 }

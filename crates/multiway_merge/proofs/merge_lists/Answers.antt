@@ -16,7 +16,10 @@ returns-in_err-judge g c =
 
 -- there are no lists
 pub returns-then-is_empty : goal.returns-then-is_empty
-returns-then-is_empty g c = merged_none _ c.kind_of.ensures c.in_ok-judge.ensures (eqb-true _ _ (sym c.is_empty.ensures ∙ c.if-is_empty.true)) _ c.of_none.ensures
+returns-then-is_empty g c =
+    let e = merged_none _ c.kind_of.ensures c.in_ok-judge.ensures (eqb-true _ _ (sym c.is_empty.ensures ∙ c.if-is_empty.true)) _ c.of_none.ensures.leaves in
+    let s = c.of_none.ensures.same in
+    said c.of_none.new.out e (s.start, s.end, s.value) (λ q. search (rules, q)) (λ q. search (rules, q)) (λ q. search (rules, q))
 
 -- the passes can be run
 pub run-requires-clause-runnable : goal.run-requires-clause-runnable
@@ -27,4 +30,5 @@ run-requires-clause-runnable g c =
 pub returns : goal.returns
 returns g c =
     let e = merged _ c.kind_of.ensures c.in_ok-judge.ensures (omega (arith, eqb-false _ _ (sym c.is_empty.ensures ∙ c.if-is_empty.false))) (λ f b n h s. search rules) _ refl refl (c.min-space.ensures ∙ ap (min _) c.min.ensures) c.run.ensures in
-    said c.run.new.pass e.0 (e.1.2, e.1.3, e.1.4) (λ q. search (rules, q)) (λ q. search (rules, q)) (λ q. search (rules, q))
+    let g = c.run.new.pass in
+    said (record { start = g.0; end = g.1; value = g.2 }) e.0 (e.1.0, e.1.1, e.1.2) (λ q. search (rules, q)) (λ q. search (rules, q)) (λ q. search (rules, q))

@@ -1,6 +1,7 @@
 -- `select_pass::pass` meets its contract: event by event, the pieces done and the one pending say what the rule says of the points dealt with. Assumes nothing.
 use native.Mathlib.Omega.{arith}
 use Rattle.multiway_sweep.specs.Steps.{whole}
+use Rattle.multiway_pass.proofs.Outputs.{same_first, same_then}
 use Rattle.multiway_pass.proofs.Walks.{going_first, last_puttable, walked}
 use Rattle.multiway_pass.proofs.Merges.{walkable, all_merged}
 use Rattle.select_pass.proofs.Selects.{selecting_first, held_length, taking, none_taken, over, one_apart, one_puttable, one_going, none_going, next}
@@ -9,7 +10,7 @@ use Rattle.select_pass.proofs.pass.Goals.{else-loop-test, then-loop-test+in_defa
 
 -- no list is active
 pub loop-init : goal.loop-init
-loop-init g c = (0, selecting_first g.P.Integer.width c.requires.formed c.new-sweep.ensures c.new-selection.ensures (omega arith), going_first (walkable c.requires))
+loop-init g c = (0, selecting_first g.P.Integer.width c.requires.formed c.new-sweep.ensures c.new-selection.ensures (omega arith), going_first (walkable c.requires), same_first)
 
 -- the event is taken
 pub take-requires : goal.take-requires
@@ -37,11 +38,11 @@ loop-preserved g c =
     let n = next i k c.greatest_key.result (rw c.emit-next.ensures.same at c.take.ensures) c.greatest_key.ensures (omega (arith, c.loop-test.true)) in
     elim c.match-next.branch [
       | in-Some-next w ↦
-          rw (w.out_start-is, w.out_end-is, w.out_value-is, w.pending-is, w.count-is)
-          (_, n, one_going i k c.args.admission c.args.write _ c.loop.invariant.2 _ c.stretch_before-stretch.ensures (w.in-Some-next.ensures.piece i.act i.carried (held_length i)) w.push_merged-pushed.ensures w.put-count.ensures)
+          rw (w.out-is, w.pending-is, w.count-is)
+          (_, n, one_going i k c.args.admission c.args.write _ c.loop.invariant.2 _ c.stretch_before-stretch.ensures (w.in-Some-next.ensures.piece i.act i.carried (held_length i)) w.push_merged-pushed.ensures w.put-count.ensures.put, same_then c.loop.invariant.3 w.put-count.ensures.same)
       | in_default-next w ↦
-          rw (w.out_start-is, w.out_end-is, w.out_value-is, w.pending-is, w.count-is)
-          (_, n, none_going i k c.args.admission c.args.write _ c.loop.invariant.2 _ c.stretch_before-stretch.ensures (w.in_default-next.ensures.piece i.act i.carried (held_length i)))
+          rw (w.out-is, w.pending-is, w.count-is)
+          (_, n, none_going i k c.args.admission c.args.write _ c.loop.invariant.2 _ c.stretch_before-stretch.ensures (w.in_default-next.ensures.piece i.act i.carried (held_length i)), c.loop.invariant.3)
     ]
 
 -- none is left: what is pending is put
@@ -57,7 +58,10 @@ put-requires g c =
 pub returns : goal.returns
 returns g c =
     let i = c.loop.invariant.1 in
-    elim c.loop-test.branch [
-      | else-loop-test w ↦ all_merged c.requires (walked c.loop.invariant.2 (over i (omega (arith, w.loop-test.false))) c.put.ensures)
-      | then-loop-test+in_default w ↦ all_merged c.requires (walked c.loop.invariant.2 (over i (none_taken i (whole w.step.new.self) (w.in_default.ensures.next _ i.sweeping))) c.put.ensures)
-    ]
+    record {
+      same = same_then c.loop.invariant.3 c.put.ensures.same;
+      put = elim c.loop-test.branch [
+        | else-loop-test w ↦ all_merged c.requires (walked c.loop.invariant.2 (over i (omega (arith, w.loop-test.false))) c.put.ensures.put)
+        | then-loop-test+in_default w ↦ all_merged c.requires (walked c.loop.invariant.2 (over i (none_taken i (whole w.step.new.self) (w.in_default.ensures.next _ i.sweeping))) c.put.ensures.put)
+      ];
+    }
