@@ -5,6 +5,7 @@ use mathlib.Core.Logic.{⊎_elim}
 use mathlib.Core.Bool.{Bool, true, false}
 use Rattle.std.specs.declared.option.Option.{Option}
 use Rattle.std.specs.declared.option.Option.TheVariants.{None, Some}
+use Rattle.std.specs.Borrow.{MutBor}
 use mathlib.Core.List.{List, ◌∷◌}
 use native.Mathlib.Omega.{arith}
 use lib.IntN.{ℤ}
@@ -72,7 +73,7 @@ module _ {P : Type 0} {w : Width P} {c : Reading P} {ls : List (List Range)} {j 
 
     -- it is taken, and the next one is held
     module _ {b : SweepMut} {r : Option Event} (st : TakesNext w c (whole j.sweep) (whole b) r) (e : moment x ≡ t) where
-      taken : (u : List ℤ) (v : List Bool) (n : ℕ) (last : Option ℕ) → length u ≡ 16 → length v ≡ 16 → active (length ls) (slots_of u v) ≡ apply x (active (length ls) (places j)) → n ≡ length (present (apply x (active (length ls) (places j)))) → Joining w c ls (record { sweep = b; held = r; current = u; present = v; active_count = n; last_end = last }) t
+      taken : (u : MutBor (List ℤ)) (v : MutBor (List Bool)) (n : ℕ) (last : Option ℕ) → length u.now ≡ 16 → length v.now ≡ 16 → active (length ls) (slots_of u.now v.now) ≡ apply x (active (length ls) (places j)) → n ≡ length (present (apply x (active (length ls) (places j)))) → Joining w c ls (record { sweep = b; held = r; current = u; present = v; active_count = n; last_end = last }) t
       taken u v n last cl pl q k =
           record {
             formed = g.formed;
@@ -104,9 +105,10 @@ module _ {P : Type 0} {w : Width P} {c : Reading P} {ls : List (List Range)} {j 
     some_active : 0 < j.active_count
     some_active = omega (arith, fewer)
 
-    ended : {b : SweepMut} {r : Option Event} → TakesNext w c (whole j.sweep) (whole b) r → t ≡ 2 * at + 1 → Joining w c ls (record { sweep = b; held = r; current = j.current; present = set j.present list false; active_count = j.active_count - 1; last_end = j.last_end }) t
-    ended st e =
-        taken end_held st (sym e) _ _ _ _ g.current_long (length-set j.present list false ∙ g.present_long) (absent_set (places j) (length ls) list (omega (arith, end_list, g.present_long))) (omega (arith, fewer))
+    ended : {v : MutBor (List Bool)} → v.now ≡ set j.present.now list false → {b : SweepMut} {r : Option Event} → TakesNext w c (whole j.sweep) (whole b) r → t ≡ 2 * at + 1 → Joining w c ls (record { sweep = b; held = r; current = j.current; present = v; active_count = j.active_count - 1; last_end = j.last_end }) t
+    ended q st e =
+        taken end_held st (sym e) _ _ _ _ g.current_long (ap length q ∙ length-set j.present.now list false ∙ g.present_long)
+        (rw q (absent_set (places j) (length ls) list (omega (arith, end_list, g.present_long)))) (omega (arith, fewer))
 
   -- a range starts: its list has its value from there on
   module _ {y : Span} {list : ℕ} {v : ℤ} (h : j.held ≡ Some (Start y list v)) where
@@ -129,11 +131,10 @@ module _ {P : Type 0} {w : Width P} {c : Reading P} {ls : List (List Range)} {j 
     start_few : (list < 16) × (j.active_count < 16)
     start_few = (list_few start_held, omega (arith, more, g.counted.few, count_upto (set (active (length ls) (places j)) list (Some v)), length-set (active (length ls) (places j)) list (Some v), active_length (length ls) (places j)))
 
-    started : {u : ℤ} → u ≡ v → {b : SweepMut} {r : Option Event} → TakesNext w c (whole j.sweep) (whole b) r → t ≡ 2 * y.start → Joining w c ls (record { sweep = b; held = r; current = set j.current list u; present = set j.present list true; active_count = j.active_count + 1; last_end = j.last_end }) t
-    started k st e =
-        rw k
-        (taken start_held st (omega arith) _ _ _ _ (length-set j.current list v ∙ g.current_long) (length-set j.present list true ∙ g.present_long)
-        (present_set (places j) (length ls) list (omega (arith, start_few, g.present_long)) v (omega (arith, start_few, g.current_long))) more)
+    started : {u : MutBor (List ℤ)} {a : MutBor (List Bool)} → u.now ≡ set j.current.now list v → a.now ≡ set j.present.now list true → {b : SweepMut} {r : Option Event} → TakesNext w c (whole j.sweep) (whole b) r → t ≡ 2 * y.start → Joining w c ls (record { sweep = b; held = r; current = u; present = a; active_count = j.active_count + 1; last_end = j.last_end }) t
+    started k q st e =
+        taken start_held st (omega arith) _ _ _ _ (ap length k ∙ length-set j.current.now list v ∙ g.current_long) (ap length q ∙ length-set j.present.now list true ∙ g.present_long)
+        (rw (k, q) (present_set (places j) (length ls) list (omega (arith, start_few, g.present_long)) v (omega (arith, start_few, g.current_long)))) more
 
 -- the held event is looked at: one of the ends of the last stretch, or else they are all taken
 module _ {P : Type 0} {w : Width P} {c : Reading P} {ls : List (List Range)} {j : JoinSweep} (g : Joining w c ls j (moment_of j.last_end)) {look : Option ℕ} (e : EndsWith j.held j.last_end look) where
@@ -165,8 +166,8 @@ module _ {P : Type 0} {w : Width P} {c : Reading P} {ls : List (List Range)} {j 
     pub ended_past : Underway w c (whole j.sweep)
     ended_past = end_past g ends.2
 
-    pub ended_on : {b : SweepMut} {r : Option Event} → TakesNext w c (whole j.sweep) (whole b) r → Joining w c ls (record { sweep = b; held = r; current = j.current; present = set j.present list false; active_count = j.active_count - 1; last_end = j.last_end }) (moment_of j.last_end)
-    ended_on st = ended g ends.2 st (ap moment_of ends.1)
+    pub ended_on : {v : MutBor (List Bool)} → v.now ≡ set j.present.now list false → {b : SweepMut} {r : Option Event} → TakesNext w c (whole j.sweep) (whole b) r → Joining w c ls (record { sweep = b; held = r; current = j.current; present = v; active_count = j.active_count - 1; last_end = j.last_end }) (moment_of j.last_end)
+    ended_on k st = ended g ends.2 k st (ap moment_of ends.1)
 
 -- the held event is looked at: one of the starts at a point, or else they are all taken
 module _ {P : Type 0} {w : Width P} {c : Reading P} {ls : List (List Range)} {j : JoinSweep} (start : ℕ) (g : Joining w c ls j (2 * start)) {look : Option (ℕ × ℤ)} (e : StartsWith j.held start look) where
@@ -192,5 +193,5 @@ module _ {P : Type 0} {w : Width P} {c : Reading P} {ls : List (List Range)} {j 
     pub started_past : Underway w c (whole j.sweep)
     started_past = start_past g begins.2
 
-    pub started_on : {u : ℤ} → u ≡ v → {b : SweepMut} {r : Option Event} → TakesNext w c (whole j.sweep) (whole b) r → Joining w c ls (record { sweep = b; held = r; current = set j.current list u; present = set j.present list true; active_count = j.active_count + 1; last_end = j.last_end }) (2 * start)
-    started_on k st = started g begins.2 k st (omega (arith, begins.1))
+    pub started_on : {u : MutBor (List ℤ)} {a : MutBor (List Bool)} → u.now ≡ set j.current.now list v → a.now ≡ set j.present.now list true → {b : SweepMut} {r : Option Event} → TakesNext w c (whole j.sweep) (whole b) r → Joining w c ls (record { sweep = b; held = r; current = u; present = a; active_count = j.active_count + 1; last_end = j.last_end }) (2 * start)
+    started_on k i st = started g begins.2 k i st (omega (arith, begins.1))

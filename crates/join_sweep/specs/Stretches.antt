@@ -74,7 +74,7 @@ Reached h r = On (λ e. r + 1 ≡ edge e) ⊥ h
 
 -- what the lists have on the last stretch
 abbrev pub places : JoinSweep → Slots
-places j = slots_of j.current j.present
+places j = slots_of j.current.now j.present.now
 
 -- sixteen places that hold nothing
 abbrev pub nowhere : Slots
@@ -92,8 +92,8 @@ module _ {P : Type 0} (w : Width P) (c : Reading P) where
     -- at the moment t a join has taken the events before, and has what the lists have then
     pub record Joining (j : JoinSweep) (t : ℕ) : Type 0 where
       pub formed : AllWellFormed w.points ls
-      pub current_long : length j.current ≡ 16
-      pub present_long : length j.present ≡ 16
+      pub current_long : length j.current.now ≡ 16
+      pub present_long : length j.present.now ≡ 16
       pub counted : Counted (length ls) j.active_count (places j)
       pub left : List (rules.Event ℤ)
       pub front : Front ls t left (active (length ls) (places j))

@@ -25,27 +25,34 @@ pub struct JoinSweep<'a> {
     pub sweep: SweepMut<'a>,
     pub held: Option<Event>,
     // Two arrays, as the combiners read them.
-    pub current: [i32; 16],
-    pub present: [bool; 16],
+    pub current: &'a mut [i32; 16],
+    pub present: &'a mut [bool; 16],
     // How many are present, kept by what starts and ends: counting them anew for each stretch takes sixteen looks.
     pub active_count: usize,
     pub last_end: Option<u64>,
 }
 
 impl<'a> JoinSweep<'a> {
-    // The join's sweep of a sweep over the lists, before the first stretch.
-    pub fn new<P: Integer>(lent: Lists<P>, sweep: SweepMut<'a>) -> JoinSweep<'a>
+    // The join's sweep of a sweep over the lists, before the first stretch, whatever stands in the places.
+    pub fn new<P: Integer>(
+        lent: Lists<P>,
+        sweep: SweepMut<'a>,
+        current: &'a mut [i32; 16],
+        present: &'a mut [bool; 16],
+    ) -> JoinSweep<'a>
         requires formed { (k : Kind) × Formed P.width k (held lent) }
         requires new { NewSweep P.width (held lent) (whole sweep) }
         ensures { let l = held lent.entry in Ready P.width (reads l) result (events (lists P.width l)) }
     {
         let mut sweep = sweep;
         let held = sweep.step(lent);
+        *current = [0; 16];
+        *present = [false; 16];
         JoinSweep {
             sweep,
             held,
-            current: [0; 16],
-            present: [false; 16],
+            current,
+            present,
             active_count: 0,
             last_end: None,
         }

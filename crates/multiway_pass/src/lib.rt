@@ -86,8 +86,8 @@ fn rule_of_stretch(
         combiner,
         lists,
         count,
-        &sweep.current,
-        &sweep.present,
+        sweep.current,
+        sweep.present,
     )
 }
 
@@ -160,7 +160,9 @@ pub fn pass<P: Integer>(
     let mut starts = Heap::new();
     let mut active_ends = Heap::new();
     let events = SweepMut::new(lent, &mut courses, &mut starts, &mut active_ends);
-    let mut sweep = JoinSweep::new(lent, events);
+    let mut current = [0; 16];
+    let mut present = [false; 16];
+    let mut sweep = JoinSweep::new(lent, events, &mut current, &mut present);
     let mut pending = None;
     let mut count: usize = 0;
     while let Some(range) = sweep.next_stretch(lent) {

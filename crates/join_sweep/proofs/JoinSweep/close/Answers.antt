@@ -1,4 +1,5 @@
 -- `JoinSweep::close` meets its contract: it takes the ends of the last stretch. Assumes nothing.
+use mathlib.Core.Path.{refl}
 use native.Mathlib.Omega.{arith}
 use Rattle.join_sweep.proofs.Turns.{closed, ended_few, ended_past, ended_on}
 use Rattle.join_sweep.proofs.JoinSweep.close.Goals as goal
@@ -20,7 +21,7 @@ loop-list-smaller g c = omega (arith, (ended_few (c.loop-list.invariant.0 _ c.re
 
 -- the end is taken
 pub loop-list-preserved : goal.loop-list-preserved
-loop-list-preserved g c = (λ ls s. ended_on (c.loop-list.invariant.0 ls s) c.ending.ensures c.in-Some.is c.step-self.ensures.next, c.loop-list.invariant.1)
+loop-list-preserved g c = (λ ls s. ended_on (c.loop-list.invariant.0 ls s) c.ending.ensures c.in-Some.is refl c.step-self.ensures.next, c.loop-list.invariant.1)
 
 -- they are all taken
 pub returns-clause-closed : goal.returns-clause-closed

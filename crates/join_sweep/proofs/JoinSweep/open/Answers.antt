@@ -1,4 +1,5 @@
 -- `JoinSweep::open` meets its contract: it takes the starts at the point where the stretch begins. Assumes nothing.
+use mathlib.Core.Path.{refl}
 use mathlib.Core.Logic.{inl}
 use native.Mathlib.Omega.{arith}
 use borrow.Author.Rules.{rules}
@@ -28,7 +29,7 @@ loop-list-smaller g c = omega (arith, started_few _ (c.loop-list.invariant.0 _ c
 
 -- the start is taken
 pub loop-list-preserved : goal.loop-list-preserved
-loop-list-preserved g c = (λ ls s. started_on _ (c.loop-list.invariant.0 ls s) c.starting.ensures c.in-Some.is (search rules) c.step-self.ensures.next, inl (omega arith))
+loop-list-preserved g c = (λ ls s. started_on _ (c.loop-list.invariant.0 ls s) c.starting.ensures c.in-Some.is (search rules) refl c.step-self.ensures.next, inl (omega arith))
 
 -- they are all taken
 pub returns : goal.returns
