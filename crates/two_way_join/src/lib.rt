@@ -13,10 +13,10 @@ use form::judge;
 use integer::Integer;
 use passes::run;
 use rules::{Kind, Lists, Pairing, Refusal};
-use two_way_pass::pass;
+use two_way_pass::{Columns, pass};
 
-// The join that is asked for: what is refused, or all pieces, where there is room for them. Here and below the columns are lent one by one,
-// since a struct of `&mut` slices can not be lent on.
+// The join that is asked for: what is refused, or all pieces, where there is room for them. The columns come one by one, and each pass puts
+// them together: a closure that holds a lent `Columns` is not covered at the call of `run`, and one that owns it does not tell what it left.
 pub fn join_lists<P: Integer>(
     asked: Pairing,
     lent: Lists<P>,
@@ -38,11 +38,13 @@ pub fn join_lists<P: Integer>(
             asked,
             lent,
             write,
-            out_start,
-            out_end,
-            out_left,
-            out_right,
-            out_presence,
+            &mut Columns {
+                start: out_start,
+                end: out_end,
+                left: out_left,
+                right: out_right,
+                presence: out_presence,
+            },
         )
     };
     run(lent.starts.len(), room, &mut over)

@@ -8,7 +8,7 @@ use lib.IntN.{ℤ}
 use Rattle.std.specs.declared.option.Option.{Option}
 use Rattle.std.specs.declared.option.Option.TheVariants.{None, Some}
 use lib.ListN.{length, take, drop}
-use lib.Seq.{take_all}
+use lib.Seq.{take_all, length-take-le}
 use Rattle.rules.specs.Piece.{Piece}
 use Rattle.rules.specs.Lists.{Width, Lent}
 use Rattle.rules.specs.TwoWay.{Match, side_value, presence}
@@ -16,13 +16,13 @@ use Rattle.rules.specs.Paired.{Paired, room}
 use Rattle.rules.specs.Refusals.{Formed}
 use Rattle.rules.specs.declared.Pairing.{Pairing}
 use Rattle.rules.specs.declared.Kind.TheVariants.{TwoWay}
-use Rattle.rules.proofs.Fronts.{drop_lt, drop_more, drop_none, laid_more, laid_nothing}
+use Rattle.rules.proofs.Fronts.{drop_lt, drop_more, drop_none, laid_long, laid_more, laid_nothing}
 use Rattle.two_way.specs.Sides.{piece_of, view, remains}
 use Rattle.two_way.specs.Steps.{Begun, Ready, Took, Stepped}
 use Rattle.two_way.specs.declared.Cursor.{Cursor}
 use Rattle.two_way.specs.declared.Pair.{Pair}
 use Rattle.two_way_pass.specs.Pairs.{value, first, pairs, both}
-use Rattle.two_way_pass.specs.Columns.{row, lays}
+use Rattle.two_way_pass.specs.Columns.{Writable, row, lays}
 use Rattle.two_way_pass.proofs.Lists.{begun_ready, pairs_upto}
 
 -- what each column takes of a piece
@@ -56,6 +56,19 @@ module _ {P : Type 0} (w : Width P) (v : List ℤ) (from : ℕ) (c : Paired P) w
     right = laid_nothing (rights_of v) from c.right i;
     presence = laid_nothing presences_of from c.presence i;
   }
+
+  -- the room stays
+  lays_room : (write : Bool) (xs : List (Piece Match)) → (write ≡ true → from + length xs ≤ room c) → room (lays w v write from xs c) ≡ room c
+  lays_room false xs h = refl
+  lays_room true xs h =
+      let r = h refl in
+      rw (
+        laid_long (starts_of w) from xs c.start (omega arith),
+        laid_long (ends_of w) from xs c.end (omega arith),
+        laid_long (lefts_of v) from xs c.left (omega arith),
+        laid_long (rights_of v) from xs c.right (omega arith),
+        laid_long presences_of from xs c.presence (omega arith),
+      ) refl
 
   -- one piece more
   lays_more : (write : Bool) (xs : List (Piece Match)) (n : ℕ) (y : Pair) (ys : List (Piece Match)) → drop n xs ≡ piece_of y ∷ ys → (write ≡ true → from + length xs ≤ room c) → put_row w v write (from + n) y (lays w v write from (take n xs) c) ≡ lays w v write from (take (n + 1) xs) c
@@ -97,6 +110,20 @@ module _ {P : Type 0} {w : Width P} {o : Pairing} {l : Lent P} {m : ℕ} {write 
     going_few = omega (arith, going_lt, pairs_upto g.formed o, g.formed.ranges_few)
 
     module _ {place : ℕ} (p : place ≡ from + n) where
+      -- there is a place for it, where pieces are written
+      pub going_writable : write ≡ true → Writable w l.values place y d
+      going_writable t =
+          let h = g.roomy t in
+          let few = going_lt in
+          let same : room d ≡ room c = rw g.laid (lays_room w l.values from c write (take n ps) (λ u. omega (arith, length-take-le n ps (omega arith)))) in
+          record {
+            room = omega arith;
+            start = omega (arith, s.fits.order, s.fits.below);
+            end = s.fits.below;
+            left = rw g.formed.agree.values_long s.fits.left;
+            right = rw g.formed.agree.values_long s.fits.right;
+          }
+
       -- one more piece
       pub going_more : {d' : Paired P} → d' ≡ put_row w l.values write place y d → Going w o l m write from c d' j (n + 1)
       going_more u =

@@ -3,12 +3,25 @@ use Rattle.std.specs.Prelude.{ℕ, ◌≤◌, ◌<◌, ◌≡◌, Bool, true, fa
 use Rattle.rules.specs.Piece.{Piece}
 use Rattle.rules.specs.Lists.{Width, Lent}
 use Rattle.rules.specs.TwoWay.{Match, side_value, presence}
-use Rattle.rules.specs.Paired.{Paired, room, lay}
+use Rattle.rules.specs.Paired.{Paired, columns, room, lay}
 use Rattle.rules.specs.declared.Pairing.{Pairing}
 use Rattle.two_way.specs.Sides.{left_place, right_place, piece_of}
 use Rattle.two_way.specs.Steps.{Inside}
 use Rattle.two_way.specs.declared.Pair.{Pair}
 use Rattle.two_way_pass.specs.Pairs.{value, pairs}
+use Rattle.two_way_pass.specs.declared.Columns.{Columns}
+
+-- what stands behind columns that are lent
+abbrev pub behind : {P : Type 0} → Columns P → Paired P
+behind c = columns c.start.now c.end.now c.left.now c.right.now c.presence.now
+
+-- d has the columns that c has, lent by the same
+pub record Same {P : Type 0} (c d : Columns P) : Type 0 where
+  pub start : d.start.ghost_name ≡ c.start.ghost_name
+  pub end : d.end.ghost_name ≡ c.end.ghost_name
+  pub left : d.left.ghost_name ≡ c.left.ghost_name
+  pub right : d.right.ghost_name ≡ c.right.ghost_name
+  pub presence : d.presence.ghost_name ≡ c.presence.ghost_name
 
 module _ {P : Type 0} (w : Width P) (v : List ℤ) where
   -- there is a place for a piece, its points are points, and its places are those of values

@@ -5,12 +5,11 @@
 ghost use Rattle.std.specs.Prelude.{◌≡◌, ◌<◌, length};
 ghost use Rattle.rules.specs.Lists.{held};
 ghost use Rattle.rules.specs.TwoWay.{side_value};
-ghost use Rattle.rules.specs.Paired.{output, before, after};
 ghost use Rattle.rules.specs.Refusals.{Formed};
 ghost use Rattle.rules.specs.declared.Kind.TheVariants.{TwoWay};
 ghost use Rattle.two_way.specs.Steps.{Inside};
 ghost use Rattle.two_way_pass.specs.Pairs.{value, two_lists};
-ghost use Rattle.two_way_pass.specs.Columns.{Writable, PutPair, Roomy, Passed};
+ghost use Rattle.two_way_pass.specs.Columns.{behind, Same, Writable, PutPair, Roomy, Passed};
 
 use integer::{Integer, put_key};
 use rules::{Lists, Pairing};
@@ -27,28 +26,29 @@ pub fn value_at(values: &[i32], place: Option<usize>) -> i32
     }
 }
 
-// Writes a piece at a place of the columns; values are read here alone. The columns are lent one by one, since a struct of `&mut` slices
-// can not be lent on.
-fn put<P: Integer>(
-    values: &[i32],
-    place: usize,
-    pair: Pair,
-    out_start: &mut [P],
-    out_end: &mut [P],
-    out_left: &mut [i32],
-    out_right: &mut [i32],
-    out_presence: &mut [u8],
-)
-    requires { Writable P.width values.now place pair (output out_start out_end out_left out_right out_presence) }
-    ensures { PutPair P.width values.now place pair
-        (before out_start out_end out_left out_right out_presence)
-        (after out_start out_end out_left out_right out_presence) }
-{
-    put_key(out_start, place, pair.start);
-    put_key(out_end, place, pair.end);
-    out_left[place] = value_at(values, pair.left_place());
-    out_right[place] = value_at(values, pair.right_place());
-    out_presence[place] = pair.number();
+// The columns that pieces are written into.
+#[derive(Drop)]
+pub struct Columns<'a, P> {
+    pub start: &'a mut [P],
+    pub end: &'a mut [P],
+    pub left: &'a mut [i32],
+    pub right: &'a mut [i32],
+    pub presence: &'a mut [u8],
+}
+
+impl<P: Integer> Columns<'_, P> {
+    // Writes a piece at a place; values are read here alone.
+    fn put(&mut self, values: &[i32], place: usize, pair: Pair)
+        requires { Writable P.width values.now place pair (behind self.old) }
+        ensures put { PutPair P.width values.now place pair (behind self.old) (behind self.new) }
+        ensures same { Same self.old self.new }
+    {
+        put_key(self.start, place, pair.start);
+        put_key(self.end, place, pair.end);
+        self.left[place] = value_at(values, pair.left_place());
+        self.right[place] = value_at(values, pair.right_place());
+        self.presence[place] = pair.number();
+    }
 }
 
 // The two lists that are lent: the first count tells where the left ends.
@@ -69,17 +69,12 @@ pub fn pass<P: Integer>(
     asked: Pairing,
     lent: Lists<P>,
     write: bool,
-    out_start: &mut [P],
-    out_end: &mut [P],
-    out_left: &mut [i32],
-    out_right: &mut [i32],
-    out_presence: &mut [u8],
+    columns: &mut Columns<P>,
 ) -> usize
     requires formed { Formed P.width TwoWay (held lent) }
-    requires roomy { Roomy P.width asked (held lent) write (output out_start out_end out_left out_right out_presence) }
-    ensures { Passed P.width asked (held lent.entry) write
-        (before out_start out_end out_left out_right out_presence)
-        (after out_start out_end out_left out_right out_presence) result }
+    requires roomy { Roomy P.width asked (held lent) write (behind columns.old) }
+    ensures passed { Passed P.width asked (held lent.entry) write (behind columns.old) (behind columns.new) result }
+    ensures same { Same columns.old columns.new }
 {
     let lists = two_lists(lent);
     let mut cursor = lists.begin();
@@ -87,16 +82,7 @@ pub fn pass<P: Integer>(
     let mut count = 0;
     while let Some((pair, rest)) = next_piece(asked, lists, cursor) {
         if write {
-            put(
-                lent.values,
-                count,
-                pair,
-                out_start,
-                out_end,
-                out_left,
-                out_right,
-                out_presence,
-            );
+            columns.put(lent.values, count, pair);
         }
         cursor = rest;
         count += 1;
