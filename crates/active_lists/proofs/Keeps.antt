@@ -15,12 +15,11 @@ use Rattle.heap.specs.Holes.{Climbed, Sifted}
 use Rattle.heap.proofs.Laws.{by_eq, one_same, one_other, count_none, count_at, top_counted, heap_none}
 use Rattle.heap.proofs.Moves.{pushed, popped}
 use Rattle.active_lists.specs.Active.{nobody, but, bit, number, Alike, HighestIn, members}
-use Rattle.active_lists.specs.Kept.{rank, ranks, is_on, is_in, mark, on, active, entered, Keeps}
+use Rattle.active_lists.specs.Kept.{rank, ranks, is_on, is_in, mark, on, active, entered, Fields, Keeps}
 use Rattle.active_lists.specs.contracts.Mark.{the_type}
 use Rattle.active_lists.specs.declared.Heaped.{Heaped}
 use Rattle.active_lists.specs.declared.Mark.{Mark}
 use Rattle.active_lists.specs.declared.Mark.TheVariants.{Out, Ended, On}
-use Rattle.active_lists.specs.declared.Active.TheInside.{Inside}
 use Rattle.active_lists.proofs.Sets.{but_here, but_other, number_none, number_same, number_upto, number_but, told_set}
 
 -- the marks of all lists, as a caller sees them
@@ -92,7 +91,7 @@ keeps_idle =
       only = λ e m. absurd (omega (arith, count_none (ranks (record { lists = replicate 16 0 })) e));
     }
 
-module _ {a : Inside} (s : Keeps a) where
+module _ {a : Fields} (s : Keeps a) where
   -- the heap is as long as lists were entered
   pub short : a.len ≤ 16
   short = omega (arith, s.long, number_upto (entered a.marks))

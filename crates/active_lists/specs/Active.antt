@@ -1,4 +1,4 @@
--- What is promised of the active lists. It speaks of the set of them alone, which is all that a caller sees of a value.
+-- What is promised of the active lists. It speaks of the set of them alone, which is all that contracts see of a value (`seen`).
 -- How the set is kept is said in `Kept`: another way to keep it changes neither this file nor any caller. Assumes nothing.
 use Rattle.std.specs.Prelude.{ℕ, zero, suc, ◌+◌, ◌<◌, ◌≤◌, ◌≡◌, Bool, true, false, cond, List, eqb, get_or}
 use Rattle.std.specs.declared.option.Option.{Option}
@@ -52,7 +52,7 @@ among (suc n) f = bit (f n) + among n f
 abbrev pub number : Set → ℕ
 number f = among 16 f
 
--- a value of the type `Active`: whether each of the sixteen is active
+-- what is seen of a value of the type `Active`: whether each of the sixteen is active
 abbrev pub Active : Type 0
 Active = List Bool
 

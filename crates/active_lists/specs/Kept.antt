@@ -1,14 +1,13 @@
 -- How the set of active lists is kept: in a heap of the lists that were entered, the highest on top, with a mark of each
 -- list; one that ended stays in the heap until it comes to the top.
--- To keep the set in another way, replace this file (another `on`, another `Keeps`), the struct and the bodies in src/lib.rt
+-- To keep the set in another way, replace this file (another `Fields`, `seen` and `Keeps`), the struct and the bodies in src/lib.rt
 -- and the proofs but `Sets` and `Stands`; the contracts there, `Active.antt` and every caller stay as they are. Assumes nothing.
 use Rattle.std.specs.Prelude.{ℕ, ◌-◌, ◌<◌, ◌≤◌, ◌≡◌, Bool, true, false, List, get_or, length, map}
 use Rattle.heap.specs.Order.{Ordered, count}
-use Rattle.active_lists.specs.Active.{Set, bit, number}
+use Rattle.active_lists.specs.Active.{Set, Active, bit, number}
 use Rattle.active_lists.specs.declared.Heaped.{Heaped}
 use Rattle.active_lists.specs.declared.Mark.{Mark}
 use Rattle.active_lists.specs.declared.Mark.TheVariants.{Out, Ended, On}
-use Rattle.active_lists.specs.declared.Active.TheInside.{Inside}
 
 -- an entry's place in the order: the higher list comes first
 unfoldable pub rank : ℕ → ℕ
@@ -41,8 +40,19 @@ active marks list = is_on (mark marks list)
 abbrev pub entered : List Mark → Set
 entered marks list = is_in (mark marks list)
 
+-- what is kept
+pub record Fields : Type 0 where
+  pub heap : Heaped
+  pub marks : List Mark
+  pub len : ℕ
+  pub count : ℕ
+
+-- the set that is active, which is all that contracts say of a value
+abbrev pub seen : Fields → Active
+seen a = on a.marks
+
 -- the heap has what the marks tell
-pub record Keeps (a : Inside) : Type 0 where
+pub record Keeps (a : Fields) : Type 0 where
   pub whole : length a.marks ≡ 16
   pub counts : a.count ≡ number (active a.marks)
   pub long : a.len ≡ number (entered a.marks)

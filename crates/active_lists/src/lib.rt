@@ -1,4 +1,4 @@
-// Which of at most sixteen lists are active: the highest of them, and how many. A caller sees the set alone (specs/Active).
+// Which of at most sixteen lists are active: the highest of them, and how many. Contracts speak of the set alone (specs/Active).
 // It is kept in a heap of lists, the highest on top; a list is in it at most once, and one that ended stays in it until it
 // comes to the top, where it is dropped (specs/Kept). An entry is one byte, and no key beside it as in crate heap, whose laws it shares.
 
@@ -8,7 +8,7 @@ ghost use Rattle.std.specs.Prelude.{◌+◌, ◌*◌, ◌<◌, ◌≤◌, ◌≡
 ghost use Rattle.integer.specs.Order.{Less};
 ghost use Rattle.heap.specs.Holes.{Chosen, Climbed, Sifted};
 ghost use Rattle.active_lists.specs.Active.{members, with, without, number, Alike, IsHighest};
-ghost use Rattle.active_lists.specs.Kept.{rank, ranks};
+ghost use Rattle.active_lists.specs.Kept.{rank, ranks, seen};
 
 use heap::{Places, climb, sift};
 use std::marker::Model;
@@ -29,7 +29,7 @@ struct Heaped {
 
 // The heap stands in its first `len` places; there is a mark for each list; `count` lists are active. Both are numbers of what a set of fixed
 // room holds, with no heap memory: they are no index of a loop.
-#[derive(Drop)]
+#[derive(Clone, Copy)]
 pub struct Active {
     heap: Heaped,
     marks: [Mark; 16],
@@ -37,16 +37,17 @@ pub struct Active {
     count: usize,
 }
 
+// What is kept, whole, so that a value can be copied; contracts speak of `seen` of it.
 impl Model for Active {
-    ghost use Rattle.std.specs.Prelude.{List, Bool};
+    ghost use Rattle.active_lists.specs.Kept.{Fields, Keeps};
 
-    ghost Value = { List Bool };
+    ghost Value = { Fields };
 
-    ghost use Rattle.active_lists.specs.Kept.{on, Keeps};
+    ghost view = { λ a. record { heap = a.heap; marks = a.marks; len = a.len; count = a.count } };
 
-    ghost view = { λ a. on a.marks };
+    ghost inverse = { λ a. record { heap = a.heap; marks = a.marks; len = a.len; count = a.count } };
 
-    ghost invariant = { λ a. Keeps a };
+    ghost invariant = { λ a. Keeps (record { heap = a.heap; marks = a.marks; len = a.len; count = a.count }) };
 }
 
 impl Places for Heaped {
@@ -72,7 +73,7 @@ impl Places for Heaped {
 impl Active {
     // No list is active.
     pub fn idle() -> Active
-        ensures { result ≡ replicate 16 false }
+        ensures { seen result ≡ replicate 16 false }
     {
         Active {
             heap: Heaped { lists: [0; 16] },
@@ -85,8 +86,8 @@ impl Active {
     // A list becomes active. It is entered unless it is still in the heap.
     pub fn activate(&mut self, list: usize)
         requires small { list < 16 }
-        requires off { members self.old list ≡ false }
-        ensures { Alike (members self.new) (with (members self.old) list) }
+        requires off { members (seen self.old) list ≡ false }
+        ensures { Alike (members (seen self.new)) (with (members (seen self.old)) list) }
     {
         let mark = self.marks[list];
         self.marks[list] = Mark::On;
@@ -100,8 +101,8 @@ impl Active {
     // A list becomes inactive. It stays in the heap.
     pub fn deactivate(&mut self, list: usize)
         requires small { list < 16 }
-        requires on { members self.old list ≡ true }
-        ensures { Alike (members self.new) (without (members self.old) list) }
+        requires on { members (seen self.old) list ≡ true }
+        ensures { Alike (members (seen self.new)) (without (members (seen self.old)) list) }
     {
         self.marks[list] = Mark::Ended;
         self.count -= 1;
@@ -110,8 +111,8 @@ impl Active {
     // The highest active list, or none. Lists that ended are dropped from the top: the last entry goes down from there. The loop is a search:
     // it goes on by what is on top.
     pub fn highest(&mut self) -> Option<usize>
-        ensures same { self.new ≡ self.old }
-        ensures highest { IsHighest (members self.old) result }
+        ensures same { seen self.new ≡ seen self.old }
+        ensures highest { IsHighest (members (seen self.old)) result }
     {
         while self.len > 0 {
             let top = self.heap.lists[0] as usize;
@@ -128,14 +129,14 @@ impl Active {
 
     // How many lists are active.
     pub fn how_many(&self) -> usize
-        ensures { result ≡ number (members self.now) }
+        ensures { result ≡ number (members (seen self.now)) }
     {
         self.count
     }
 
     // Whether the number of active lists is odd.
     pub fn odd(&self) -> bool
-        ensures { result ≡ eqb (number (members self.now) % 2) 1 }
+        ensures { result ≡ eqb (number (members (seen self.now)) % 2) 1 }
     {
         self.count % 2 == 1
     }

@@ -5,15 +5,18 @@
 
 ghost use Rattle.std.specs.Prelude.{◌<◌, ◌≡◌, false, length, get_or};
 ghost use Rattle.active_lists.specs.Active.{Stands};
+ghost use Rattle.active_lists.specs.Kept.{seen};
 
 use active_lists::Active;
-use std::io;
 
-fn say(rt: &impl Print, line: &[char; 32]) -> io::Result<()> {
-    for letter in line {
-        print!(rt; "{letter}")?;
-    }
-    println!(rt; "")
+// Thirty-two letters and the line's end.
+type Line = [u8; 33];
+
+const EMPTY: Line = [b'\n'; 33];
+
+// A line that cannot be written is passed over.
+fn say(rt: &impl Print, line: &Line) {
+    let _ = rt.write_all(line);
 }
 
 fn list_of(letter: u8) -> usize
@@ -25,22 +28,22 @@ fn list_of(letter: u8) -> usize
     }
 }
 
-fn letter_of(list: usize) -> char {
+fn letter_of(list: usize) -> u8 {
     match list {
-        0..=15 => (b'a' + list as u8) as char,
-        _ => '?',
+        0..=15 => b'a' + list as u8,
+        _ => b'?',
     }
 }
 
 // A number's digit in base 17, which has none for 17 and more.
-fn digit(n: usize) -> char {
-    char::from_digit(n.min(17) as u32, 17).map_or('?', |digit| digit.to_ascii_uppercase())
+fn digit(n: usize) -> u8 {
+    b"0123456789ABCDEFG".get(n).copied().unwrap_or(b'?')
 }
 
 // Turns a list on, or off if it is on.
 fn turn(active: &mut Active, on: &mut [bool; 16], list: usize)
-    requires { (list < 16) × Stands active.old (λ i. get_or on.old i false) }
-    ensures { Stands active.new (λ i. get_or on.new i false) }
+    requires { (list < 16) × Stands (seen active.old) (λ i. get_or on.old i false) }
+    ensures { Stands (seen active.new) (λ i. get_or on.new i false) }
 {
     if on[list] {
         active.deactivate(list);
@@ -51,35 +54,33 @@ fn turn(active: &mut Active, on: &mut [bool; 16], list: usize)
 }
 
 // The letter of the highest active list, or a point where none is.
-fn top(active: &mut Active) -> char
-    ensures { active.new ≡ active.old }
+fn top(active: &mut Active) -> u8
+    ensures { seen active.new ≡ seen active.old }
 {
-    active.highest().map_or('.', letter_of)
+    active.highest().map_or(b'.', letter_of)
 }
 
-fn play(rt: &impl Print, script: &str) -> io::Result<()>
+fn play(rt: &impl Print, script: &str)
     requires { length script.now ≡ 32 }
 {
     let mut active = Active::idle();
     let mut on = [false; 16];
-    let mut tops = ['.'; 32];
-    let mut numbers = ['.'; 32];
-    let mut odds = ['.'; 32];
+    let (mut tops, mut numbers, mut odds) = (EMPTY, EMPTY, EMPTY);
     for (i, letter) in script.bytes().enumerate() {
         turn(&mut active, &mut on, list_of(letter));
         numbers[i] = digit(active.how_many());
         odds[i] = digit(active.odd() as usize);
         tops[i] = top(&mut active);
     }
-    println!(rt; "{script}")?;
-    say(rt, &tops)?;
-    say(rt, &numbers)?;
-    say(rt, &odds)
+    let _ = println!(rt; "{script}");
+    say(rt, &tops);
+    say(rt, &numbers);
+    say(rt, &odds);
 }
 
-fn main(rt: HostRuntime) -> io::Result<()> {
-    play(&rt, "abcdefghijklmnopabcdefghijklmnop")?;
-    play(&rt, "ponmlkjihgfedcbaponmlkjihgfedcba")?;
-    play(&rt, "afkpejodinchmbglhcmbglafkpejodin")?;
-    play(&rt, "hchchchpphapahmemehbabapaphmemea")
+fn main(rt: HostRuntime) {
+    play(&rt, "abcdefghijklmnopabcdefghijklmnop");
+    play(&rt, "ponmlkjihgfedcbaponmlkjihgfedcba");
+    play(&rt, "afkpejodinchmbglhcmbglafkpejodin");
+    play(&rt, "hchchchpphapahmemehbabapaphmemea");
 }

@@ -24,7 +24,7 @@ use Rattle.multiway_sweep.specs.Begins.{events_of}
 use Rattle.multiway_sweep.specs.declared.Event.{Event}
 use Rattle.multiway_sweep.specs.declared.Sweep.{Sweep}
 use Rattle.rules.proofs.Refusals.{lists_formed}
-use Rattle.multiway_sweep.proofs.Begun.{events_count, begun}
+use Rattle.multiway_sweep.proofs.Begun.{events_count, events_few, begun}
 use Rattle.event_listing.specs.Listing.{RowOf, Same, Writable, PutRow, Listable, Wrote}
 use Rattle.event_listing.specs.declared.Row.{Row}
 use Rattle.event_listing.specs.declared.Columns.{Columns}
@@ -126,6 +126,9 @@ module _ {P : Type 0} {w : Width P} {l : Lent P} {c : Listed P} where
 
         pub list_few : list (event_of x) < 256
         list_few = few took
+
+        pub taken_few : n < 4096
+        taken_few = omega (arith, written_lt took, events_few f.listable.formed)
 
         -- its row is r
         module _ {r : Row} (o : RowOf (event_of x) r) where

@@ -19,16 +19,16 @@ use rules::{Kind, Lists, Refusal};
 
 // An event as the columns have it, its point told by its key.
 #[derive(Clone, Copy)]
-struct Row {
-    kind: u8,
-    key: u64,
-    list: u8,
-    value: i32,
+pub struct Row {
+    pub kind: u8,
+    pub key: u64,
+    pub list: u8,
+    pub value: i32,
 }
 
 // The row of an event, its kind as the C interface numbers it: 0 a start, 1 an end, which has no value. It asks that the list is a byte, which `From`
 // asks of no one.
-fn row_of(event: Event) -> Row
+pub fn row_of(event: Event) -> Row
     requires { list (event_of event) < 256 }
     ensures { RowOf (event_of event) result }
 {

@@ -14,7 +14,7 @@ use tariff_file::{Refusal, Task};
 // The second byte of a head's mark, and its bytes.
 const HEAD: u8 = 0x48;
 
-const HEAD_SIZE: usize = 6;
+pub const HEAD_SIZE: usize = 6;
 
 // What a head asks for, its operation and combiner as the numbers that the file gives and a text prints, and how many lists follow.
 #[derive(Clone, Copy, Debug, PartialEq, Eq)]

@@ -19,8 +19,8 @@ use Rattle.tariff_file.specs.declared.Refusal.TheVariants.{TooManyRanges}
 use Rattle.file_records.specs.Ends.{reads, Got, Marked}
 use Rattle.file_records.specs.Columns.{Took}
 use Rattle.file_records.specs.declared.rest.Rest.{Rest}
-use Rattle.file_records.proofs.Taken.{laid_one, laid_more, took_more}
-use Rattle.file_records.proofs.Turns.{Going, going_more, going_stops, going_last}
+use Rattle.file_records.proofs.Taken.{laid_none, laid_one, laid_more, took_none, took_more}
+use Rattle.file_records.proofs.Turns.{Going, going_first, going_more, going_stops, going_last}
 use Rattle.file_reader.specs.Fills.{Counted, Gathered}
 
 module _ (from : Rest) (prior : ℕ) where
@@ -61,6 +61,14 @@ module _ (n : ℕ) (from : Rest) (b : Merged ℤ) (d : List ℕ) where
     pub done : List (Tariff ℤ)
     pub going : Going read_list so_far n 0 from i done prior rest
     pub gathered : Gathered i b c d e prior done
+
+  pub filling_first : Filling b d from 0 0
+  filling_first =
+      record {
+        done = [];
+        going = going_first read_list so_far n 0 from;
+        gathered = record { many = refl; long = refl; few = omega arith; took = took_none 0 b; counts = laid_none {R = Tariff ℤ} length 0 d };
+      }
 
   module _ (c : Merged ℤ) (e : List ℕ) (rest : Rest) (prior i : ℕ) (g : Filling c e rest prior i) where
     pub filling_stops : i < n → {x : Refusal} → reads (read_list prior) rest ≡ stop x → reads (read_lists n 0) from ≡ stop x

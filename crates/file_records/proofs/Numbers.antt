@@ -4,18 +4,32 @@ use mathlib.Core.Path.{◌≡◌, refl, ap, ◌∙◌}
 use mathlib.Core.Bool.{Bool, true, false, cond}
 use mathlib.Core.List.{List, ◌++◌, append-nil}
 use native.Mathlib.Omega.{arith}
+use native.Mathlib.Nat.{pow-suc, pow-le-pow_right}
+use native.Mathlib.Numerals.{add-one}
 use lib.Dec.{ltb}
-use lib.IntN.{pos, negsuc}
+use lib.IntN.{ℤ, pos, negsuc}
 use lib.ListN.{length, get_or, take, drop, replicate, length-drop}
 use lib.Seq.{drop-cons, length-take-le}
 use Rattle.std.proofs.lemmas.List.{drop-replicate, drop_all, length-append, length-replicate, take-replicate}
 use Rattle.std.proofs.Math.Facts.{to_z_pos, to_z-neg}
 use Rattle.std.specs.Int.{w64, from_be_bytes, cast_signed}
 use mir.Syntax.{Width}
-use mir.Val.{hbits, bits}
+use mir.Val.{SFits, hbits, bits}
 use borrow.Rule.Slice.PartMut.{put_mid}
 use borrow.Author.Tests.{ltb-true, ltb-false}
 use Rattle.tariff_file.specs.Layout.{number, half, integer}
+use Rattle.tariff_file.proofs.Number.{bits_integer}
+use Rattle.tariff_file.proofs.Places.{number_more}
+
+-- one byte more
+pub byte_more : (i n b : ℕ) → n < 256 ^ i → b < 256 → n * 256 + b < 256 ^ (i + 1)
+byte_more i n b h l = rw (add-one i) (omega (arith, pow-suc 256 i))
+
+pub byte_fits : (i n b : ℕ) → i < 8 → n < 256 ^ i → b < 256 → n * 256 + b < 2 ^ 64
+byte_fits i n b s h l = omega (arith, byte_more i n b h l, pow-le-pow_right {n = 256} (omega arith) {i = i + 1} {j = 8} (omega arith))
+
+pub number_next : (s : List ℕ) (at i n place : ℕ) → at + i < length s → place ≡ at + i → n ≡ number (take i (drop at s)) → n * 256 + get_or s place 0 ≡ number (take (i + 1) (drop at s))
+number_next s at i n place h p e = rw (add-one i) (omega (arith, number_more s at i h, ap (λ (k : ℕ). get_or s k 0) p))
 
 -- the first of the bytes from place i on
 number_step : (b : List ℕ) (i n : ℕ) → length b ≡ i + suc n → number (drop i b) ≡ get_or b i 0 * 256 ^ n + number (drop (suc i) b)
@@ -62,3 +76,7 @@ pub signed_at : (w : Width) (k i : ℕ) (b : List ℕ) (n : ℕ) → 256 ^ k ≡
 signed_at w k i b n whole low two h e l =
     let f : length (take k (drop i b)) ≡ k = length-take-le k (drop i b) (omega (arith, length-drop i b)) in
     signed_is w k n whole low two (rw f at l) ∙ ap (integer k) e
+
+-- a signed field fits a width that is not shorter
+pub field_fits : (k n : ℕ) → 0 < k → n < 256 ^ k → (z : ℤ) → z ≡ integer k n → (w : Width) → half k ≤ 2 ^ hbits w → SFits w z
+field_fits k n some below z e w enough = record { sfits = rw e (omega (arith, (bits_integer k some n below).1)) }

@@ -17,8 +17,8 @@ use Rattle.tariff_file.specs.declared.Refusal.{Refusal}
 use Rattle.file_records.specs.Ends.{reads, Got, Marked}
 use Rattle.file_records.specs.declared.rest.Rest.{Rest}
 use Rattle.file_records.specs.Columns.{Took}
-use Rattle.file_records.proofs.Taken.{took_one, took_more}
-use Rattle.file_records.proofs.Turns.{Going, going_more, going_stops, going_last}
+use Rattle.file_records.proofs.Taken.{took_none, took_one, took_more}
+use Rattle.file_records.proofs.Turns.{Going, going_first, going_more, going_stops, going_last}
 
 module _ (from : Rest) where
   -- the three fields
@@ -59,6 +59,9 @@ module _ (n : ℕ) (from : Rest) (m : ℕ) (b : Merged ℤ) where
     pub done : Tariff ℤ
     pub going : Going each on n tt from i done tt rest
     pub took : Took m b c done
+
+  pub reading_first : Reading b from 0
+  reading_first = record { done = []; going = going_first each on n tt from; took = took_none m b }
 
   module _ (c : Merged ℤ) (rest : Rest) (i : ℕ) (g : Reading c rest i) where
     pub reading_more : i < n → (d : Merged ℤ) (past : Rest) → Got read_range rest (λ x. Took (m + i) c d (x ∷ [])) past → Reading d past (i + 1)

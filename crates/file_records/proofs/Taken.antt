@@ -1,8 +1,9 @@
 -- What columns take, one after the other, they take together. Assumes nothing.
 use Prim.Native.Nat.{ℕ, ◌+◌, ◌<◌}
 use mathlib.Core.Path.{◌≡◌, refl, sym, ap, ◌∙◌}
-use mathlib.Core.List.{List, [], ◌∷◌, ◌++◌, map, map-append, append_assoc}
+use mathlib.Core.List.{List, [], ◌∷◌, ◌++◌, map, map-append, append_assoc, append-nil}
 use native.Mathlib.Omega.{arith}
+use native.Mathlib.Nat.{add-zero}
 use native.Mathlib.Numerals.{add-one}
 use lib.IntN.{ℤ}
 use lib.ListN.{length, take, set, length-append}
@@ -24,6 +25,9 @@ pub set_long : (b : Merged ℤ) (n : ℕ) (x y z : ℤ) → lengths (record { st
 set_long b n x y z i = length-set b.start n x i ∷ length-set b.end n y i ∷ length-set b.value n z i ∷ []
 
 module _ {A R : Type 0} (f : R → A) (n : ℕ) where
+  pub laid_none : (b : List A) → Laid f n [] b b
+  laid_none b = rw (add-zero n) (sym (append-nil (take n b)))
+
   pub laid_one : (x : R) (b : List A) (a : A) → n < length b → a ≡ f x → Laid f n (x ∷ []) b (set b n a)
   laid_one x b a h e = rw (add-one n, e) (take-suc-set b n (f x) h)
 
@@ -32,6 +36,9 @@ module _ {A R : Type 0} (f : R → A) (n : ℕ) where
       let e : n + length (xs ++ ys) ≡ n + i + length ys = omega (arith, length-append xs ys) in
       let m : n + i ≡ n + length xs = omega arith in
       ap (λ (k : ℕ). take k d) e ∙ h ∙ ap (λ (k : ℕ). take k c ++ map f ys) m ∙ ap (λ l. l ++ map f ys) g ∙ append_assoc (take n b) (map f xs) (map f ys) ∙ ap (λ l. take n b ++ l) (sym (map-append f xs ys))
+
+pub took_none : (n : ℕ) (b : Merged ℤ) → Took n b b []
+took_none n b = record { starts = laid_none (λ (x : Typed ℤ ℤ). x.start) n b.start; ends = laid_none (λ (x : Typed ℤ ℤ). x.end) n b.end; values = laid_none (λ (x : Typed ℤ ℤ). x.value) n b.value }
 
 pub took_one : (n : ℕ) (r : Typed ℤ ℤ) (b : Merged ℤ) → n < room b → (x y z : ℤ) → x ≡ r.start → y ≡ r.end → z ≡ r.value →
     Took n b (record { start = set b.start n x; end = set b.end n y; value = set b.value n z }) (r ∷ [])

@@ -1,8 +1,9 @@
 -- A loop over records of one kind: what is done stands before what is to come. Assumes nothing.
 use Prim.Native.Nat.{ℕ, suc, ◌+◌, ◌-◌, ◌≤◌, ◌<◌}
-use mathlib.Core.Path.{◌≡◌, ap, ◌∙◌}
+use mathlib.Core.Path.{◌≡◌, refl, sym, ap, ◌∙◌}
 use mathlib.Core.List.{List, [], ◌∷◌, ◌++◌, append-nil}
 use native.Mathlib.Omega.{arith}
+use native.Mathlib.Nat.{sub-zero}
 use lib.ListN.{length, length-append}
 use Rattle.tariff_file.specs.Reader.{Parsed, stop, got, Reader, many}
 use Rattle.tariff_file.specs.declared.Refusal.{Refusal}
@@ -22,6 +23,13 @@ module _ {A S : Type 0} (p : S → Reader A) (next : S → A → S) (n : ℕ) (f
     pub few : i ≤ n
     pub long : length done ≡ i
     pub on : all ≡ after p next done (left i now rest)
+
+  after_none : (r : Parsed (List A)) → after p next [] r ≡ r
+  after_none (stop x) = refl
+  after_none (got xs at b) = refl
+
+  pub going_first : Going 0 [] first from
+  going_first = record { few = omega arith; long = refl; on = sym (after_none (left 0 first from) ∙ ap (λ (k : ℕ). reads (many p next k first) from) (sub-zero n)) }
 
   module _ {i : ℕ} {done : List A} {now : S} {rest : Rest} (g : Going i done now rest) where
     -- at least one is to come

@@ -5,7 +5,7 @@
 ghost use Rattle.std.specs.Prelude.{◌≡◌, ◌≤◌, length};
 ghost use Rattle.rules.specs.Lists.{held, total};
 ghost use Rattle.rules.specs.Answer.{judge_range};
-ghost use Rattle.form.specs.Shape.{piece, shape, Long, one_list, end_to_end, Looked, Judged};
+ghost use Rattle.form.specs.Shape.{piece, judge_shape, Long, one_list, end_to_end, Looked, Judged};
 
 use integer::{Integer, key_at};
 use rules::{Kind, Lists, MAX_LISTS, MAX_RANGES, Refusal};
@@ -54,20 +54,25 @@ fn add_up(counts: &[u32]) -> usize
 
 // Judges the number of lists, the lengths of the columns and the combiner.
 #[tactic(auto, unfolding(crate::specs::Shape::judge_shape))]
-pub fn judge_shape<P>(kind: Kind, lent: Lists<P>) -> Result<(), Refusal>
-    ensures { result ≡ shape kind (held lent.entry) }
+pub fn judge_shape(
+    kind: Kind,
+    starts: usize,
+    ends: usize,
+    values: usize,
+    counts: &[u32],
+) -> Result<(), Refusal>
+    ensures { result ≡ judge_shape kind starts ends values counts.now }
 {
-    let ranges = lent.starts.len();
-    if MAX_LISTS < lent.counts.len() {
+    if MAX_LISTS < counts.len() {
         return Err(Refusal::TooManyLists);
     }
-    if kind == Kind::TwoWay && lent.counts.len() != 2 {
+    if kind == Kind::TwoWay && counts.len() != 2 {
         return Err(Refusal::NotTwoLists);
     }
-    if lent.ends.len() != ranges || lent.values.len() != ranges || add_up(lent.counts) != ranges {
+    if ends != starts || values != starts || add_up(counts) != starts {
         return Err(Refusal::ColumnsDiffer);
     }
-    if MAX_RANGES < ranges {
+    if MAX_RANGES < starts {
         return Err(Refusal::TooManyRanges);
     }
     if kind == Kind::Combining(false) {
@@ -112,6 +117,12 @@ fn judge_lists<P: Integer>(lent: Lists<P>) -> Result<(), Refusal>
 pub fn judge<P: Integer>(kind: Kind, lent: Lists<P>) -> Result<(), Refusal>
     ensures { Judged P.width kind (held lent.entry) result }
 {
-    judge_shape(kind, lent)?;
+    judge_shape(
+        kind,
+        lent.starts.len(),
+        lent.ends.len(),
+        lent.values.len(),
+        lent.counts,
+    )?;
     judge_lists(lent)
 }

@@ -8,7 +8,7 @@ mod judged;
 use cases::{FEW, MANY};
 use judged::{judged_few, judged_many};
 use rules::Refusal;
-use std::{fmt, io};
+use std::fmt;
 
 #[derive(Drop)]
 struct Found(Result<(), Refusal>);
@@ -22,18 +22,18 @@ impl fmt::Display for Found {
     }
 }
 
-fn main(rt: HostRuntime) -> io::Result<()> {
+// A line that cannot be written is passed over.
+fn main(rt: HostRuntime) {
     let (mut seat_starts, mut seat_ends) = ([0u32; 2049], [0u32; 2049]);
     let (mut instant_starts, mut instant_ends) = ([0i64; 2049], [0i64; 2049]);
     for case in FEW {
         let seats = Found(judged_few(case, &mut seat_starts, &mut seat_ends));
         let instants = Found(judged_few(case, &mut instant_starts, &mut instant_ends));
-        println!(rt; "{case} seats: {seats}; instants: {instants}")?;
+        let _ = println!(rt; "{case} seats: {seats}; instants: {instants}");
     }
     for case in MANY {
         let seats = Found(judged_many(case, &mut seat_starts, &mut seat_ends));
         let instants = Found(judged_many(case, &mut instant_starts, &mut instant_ends));
-        println!(rt; "{case} seats: {seats}; instants: {instants}")?;
+        let _ = println!(rt; "{case} seats: {seats}; instants: {instants}");
     }
-    Ok(())
 }

@@ -76,8 +76,8 @@ pub fn sift<S: Places>(places: &mut S, len: usize, place: usize, entry: S::Entry
         let child = lesser(places, len, place);
         let below = places.get(child);
         if S::earlier(below, entry) {
-            sift(places, len, child, entry);
             places.put(place, below);
+            sift(places, len, child, entry);
             return;
         }
     }
@@ -86,9 +86,9 @@ pub fn sift<S: Places>(places: &mut S, len: usize, place: usize, entry: S::Entry
 
 // The places of entries. Keys and lists are two arrays: with one array of entries the event listing takes more time.
 #[derive(Clone, Copy)]
-struct Entries {
-    keys: [u64; 16],
-    lists: [u8; 16],
+pub struct Entries {
+    pub keys: [u64; 16],
+    pub lists: [u8; 16],
 }
 
 impl Places for Entries {
@@ -118,8 +118,8 @@ impl Places for Entries {
 // The first `len` places are in use: no heap memory, so the room is fixed and how much of it is in use is told beside it.
 #[derive(Clone, Copy)]
 pub struct Heap {
-    places: Entries,
-    len: usize,
+    pub places: Entries,
+    pub len: usize,
     pub ghost small: { len ≤ 16 },
     pub ghost ordered: { Ordered (ranks places) len } by { Ordered_prop (ranks places) len },
 }

@@ -6,14 +6,23 @@
 ghost use Rattle.std.specs.Prelude.{◌<◌, ◌≡◌};
 
 use heap::{Entry, Heap};
-use std::io;
 
-fn letter(list: u8) -> char {
+// Sixteen letters and the line's end.
+type Line = [u8; 17];
+
+const EMPTY: Line = [b'\n'; 17];
+
+fn letter(list: u8) -> u8 {
     match list {
-        0..=15 => (b'a' + list) as char,
-        16..=31 => (b'A' + (list - 16)) as char,
-        _ => '?',
+        0..=15 => b'a' + list,
+        16..=31 => b'A' + (list - 16),
+        _ => b'?',
     }
+}
+
+// The letter of the list on top.
+fn top(heap: &Heap) -> u8 {
+    heap.top().map_or(b'?', |least| letter(least.list))
 }
 
 // The key of a list: some share one, and some have the least or the greatest.
@@ -47,37 +56,50 @@ fn filled(step: u8) -> Heap
     heap
 }
 
-// Pops all, and writes their letters.
-fn drain(rt: &impl Print, heap: &mut Heap) -> io::Result<()> {
-    while let Some(least) = heap.top() {
-        print!(rt; "{}", letter(least.list))?;
+// Pops all, and gives their letters.
+fn drain(heap: &mut Heap) -> Line
+    requires { heap.old.len ≡ 16 }
+{
+    let mut line = EMPTY;
+    for i in 0..16 {
+        line[i] = top(heap);
         heap.pop();
     }
-    println!(rt; "")
+    line
 }
 
-// Replaces the top sixteen times, by entries in the middle, and writes the letters of those replaced.
-fn turn(rt: &impl Print, heap: &mut Heap) -> io::Result<()> {
-    for list in 16..32 {
-        if let Some(least) = heap.top() {
-            print!(rt; "{}", letter(least.list))?;
-            heap.replace_top(Entry { key: 40, list });
-        }
+// Replaces the top sixteen times, by entries in the middle, and gives the letters of those replaced.
+fn turn(heap: &mut Heap) -> Line
+    requires { heap.old.len ≡ 16 }
+    ensures { heap.new.len ≡ 16 }
+{
+    let mut line = EMPTY;
+    for i in 0..16 {
+        line[i] = top(heap);
+        heap.replace_top(Entry {
+            key: 40,
+            list: 16 + i as u8,
+        });
     }
-    println!(rt; "")
+    line
 }
 
-fn turns(rt: &impl Print, step: u8) -> io::Result<()>
+// A line that cannot be written is passed over.
+fn say(rt: &impl Print, line: Line) {
+    let _ = rt.write_all(&line);
+}
+
+fn turns(rt: &impl Print, step: u8)
     requires { step < 16 }
 {
     let mut heap = filled(step);
-    turn(rt, &mut heap)?;
-    drain(rt, &mut heap)
+    say(rt, turn(&mut heap));
+    say(rt, drain(&mut heap));
 }
 
-fn main(rt: HostRuntime) -> io::Result<()> {
+fn main(rt: HostRuntime) {
     for step in [1, 15, 5, 11] {
-        drain(&rt, &mut filled(step))?;
+        say(&rt, drain(&mut filled(step)));
     }
-    turns(&rt, 7)
+    turns(&rt, 7);
 }

@@ -5,7 +5,6 @@
 ghost use Rattle.std.specs.Prelude.{◌+◌, ◌<◌};
 
 use integer::{Instant, Integer, Seat};
-use std::io;
 
 // The first two points of a width and the last two, as the language has them.
 #[derive(Clone, Copy)]
@@ -49,16 +48,16 @@ fn facts<P: Integer + PartialEq>(ends: Ends<P>) -> [(&'static str, bool); 14]
     ]
 }
 
-fn print(rt: &impl Print, width: &str, facts: [(&'static str, bool); 14]) -> io::Result<()> {
-    println!(rt; "{width}")?;
+// A line that cannot be written is passed over.
+fn print(rt: &impl Print, width: &str, facts: [(&'static str, bool); 14]) {
+    let _ = println!(rt; "{width}");
     for (fact, holds) in facts {
-        println!(rt; "{fact} {}", if holds { "yes" } else { "no" })?;
+        let _ = println!(rt; "{fact} {}", if holds { "yes" } else { "no" });
     }
-    Ok(())
 }
 
 #[tactic(auto, unfolding(rules::specs::Lists::key64))]
-fn main(rt: HostRuntime) -> io::Result<()> {
+fn main(rt: HostRuntime) {
     let seats: Ends<Seat> = Ends {
         least: u32::MIN,
         second: u32::MIN + 1,
@@ -71,6 +70,6 @@ fn main(rt: HostRuntime) -> io::Result<()> {
         last_but_one: i64::MAX - 1,
         greatest: i64::MAX,
     };
-    print(&rt, "seat", facts(seats))?;
-    print(&rt, "instant", facts(instants))
+    print(&rt, "seat", facts(seats));
+    print(&rt, "instant", facts(instants));
 }

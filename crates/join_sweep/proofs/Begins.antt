@@ -16,10 +16,10 @@ use Rattle.multiway_sweep.specs.Steps.{Reading}
 use Rattle.multiway_sweep.specs.declared.Range.{Range as Span}
 use Rattle.multiway_sweep.proofs.Front.{front_first}
 use Rattle.join_sweep.specs.Stretches.{after, moment_of, places, Ready, Joining, Finds}
-use Rattle.join_sweep.specs.declared.JoinSweep.{JoinSweep}
+use Rattle.join_sweep.specs.declared.JoinSweepMut.{JoinSweepMut}
 
 -- a join begins before the first stretch
-pub joining_first : {P : Type 0} {w : Width P} {c : Reading P} {ls : List (List Range)} {j : JoinSweep} → AllWellFormed w.points ls → length ls ≤ 16 → Ready w c j (events ls) → Joining w c ls j (moment_of j.last_end)
+pub joining_first : {P : Type 0} {w : Width P} {c : Reading P} {ls : List (List Range)} {j : JoinSweepMut} → AllWellFormed w.points ls → length ls ≤ 16 → Ready w c j (events ls) → Joining w c ls j (moment_of j.state.last_end)
 joining_first {w = w} {ls = ls} {j = j} wf few r =
     let e = active_none (replicate 16 (pos 0)) 16 ls in
     rw r.first
@@ -34,13 +34,13 @@ joining_first {w = w} {ls = ls} {j = j} wf few r =
     })
 
 -- a stretch is found, and the join stands at its end
-pub record Found {P : Type 0} (w : Width P) (c : Reading P) (ls : List (List Range)) (k : ℕ) (j : JoinSweep) (x : Span) : Type 0 where
+pub record Found {P : Type 0} (w : Width P) (c : Reading P) (ls : List (List Range)) (k : ℕ) (j : JoinSweepMut) (x : Span) : Type 0 where
   pub stretch : Stretch w.points ls k (active (length ls) (places j)) x.start x.end
-  pub joining : Joining w c ls j (moment_of j.last_end)
-  pub after_it : after j.last_end ≡ x.end + 1
+  pub joining : Joining w c ls j (moment_of j.state.last_end)
+  pub after_it : after j.state.last_end ≡ x.end + 1
 
 -- a stretch and the sweep at its end, or none is left
-module _ {P : Type 0} (w : Width P) (c : Reading P) (ls : List (List Range)) (k : ℕ) (j : JoinSweep) {r : Option Span} where
+module _ {P : Type 0} (w : Width P) (c : Reading P) (ls : List (List Range)) (k : ℕ) (j : JoinSweepMut) {r : Option Span} where
   pub finds_next : {x : Span} → r ≡ Some x → Finds w c ls k j r → Found w c ls k j x
   finds_next h f = let q = rw h at f in record { stretch = q.0; joining = subst (λ (m : Option ℕ). Joining w c ls j (moment_of m)) (sym q.1) q.2; after_it = ap after q.1 }
 

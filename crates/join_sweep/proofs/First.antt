@@ -21,16 +21,16 @@ use Rattle.multiway_sweep.proofs.Front.{front_column, front_last, front_ends, fr
 use Rattle.slots.specs.Slots.{active}
 use Rattle.slots.specs.Stretch.{NoStretch}
 use Rattle.join_sweep.specs.Stretches.{after, Busy, StartsAt, Begun, BegunAfter, Ahead, Reached, places, Joining, Opened, Finds}
-use Rattle.join_sweep.specs.declared.JoinSweep.{JoinSweep}
+use Rattle.join_sweep.specs.declared.JoinSweepMut.{JoinSweepMut}
 use Rattle.slots.proofs.Slots.{active_length, count_none, nones_count}
 use Rattle.join_sweep.proofs.Turns.{Later, moved, ended_at}
 
 -- nothing that ended before k is active
-module _ {P : Type 0} {w : Width P} {c : Reading P} {ls : List (List Range)} {j : JoinSweep} (k : ℕ) (g : Joining w c ls j (2 * k)) where
-  idle : j.active_count ≡ 0 → active (length ls) (places j) ≡ nones ls
+module _ {P : Type 0} {w : Width P} {c : Reading P} {ls : List (List Range)} {j : JoinSweepMut} (k : ℕ) (g : Joining w c ls j (2 * k)) where
+  idle : j.state.active_count ≡ 0 → active (length ls) (places j) ≡ nones ls
   idle q = count_none (active (length ls) (places j)) ls (active_length (length ls) (places j)) (omega (arith, g.counted.count))
 
-  idle_end : j.active_count ≡ 0 → {at list : ℕ} {rest : List (rules.Event ℤ)} → Front ls (2 * k) (rules.ends at list ∷ rest) (active (length ls) (places j)) → ⊥
+  idle_end : j.state.active_count ≡ 0 → {at list : ℕ} {rest : List (rules.Event ℤ)} → Front ls (2 * k) (rules.ends at list ∷ rest) (active (length ls) (places j)) → ⊥
   idle_end q {list = list} f =
       let i = idle q in
       let e = front_ends w.points ls g.formed f in
@@ -38,8 +38,8 @@ module _ {P : Type 0} {w : Width P} {c : Reading P} {ls : List (List Range)} {j 
       let z : ◌≡◌ {A = ℕ} 0 1 = cc in
       omega arith
 
-  nowhere : (j.active_count ≡ 0) × NoStart j.held → (p : ℕ) → k ≤ p → column ls p ≡ nones ls
-  nowhere q p h = go j.held q.1 g.holds
+  nowhere : (j.state.active_count ≡ 0) × NoStart j.state.held → (p : ℕ) → k ≤ p → column ls p ≡ nones ls
+  nowhere q p h = go j.state.held q.1 g.holds
     where
       go : (r : Option Event) → NoStart r → Holds w c (whole j.sweep) r g.left → column ls p ≡ nones ls
       go None n e = front_column w.points ls g.formed (rw e at g.front) p (omega arith) tt ∙ idle q.0
@@ -49,15 +49,15 @@ module _ {P : Type 0} {w : Width P} {c : Reading P} {ls : List (List Range)} {j 
   -- a stretch begins at a point
   pub record BeginsAt (start : ℕ) : Type 0 where
     pub joining : Joining w c ls j (2 * start)
-    pub busy : Busy start j
+    pub busy : Busy start j.state
     pub later : k ≤ start
     pub gap : (p : ℕ) → k ≤ p → p < start → column ls p ≡ nones ls
 
-  begins : (start : ℕ) → Begun j k (Some start) → BeginsAt start
+  begins : (start : ℕ) → Begun j.state k (Some start) → BeginsAt start
   begins start (inl q) = record { joining = subst (λ i. Joining w c ls j (2 * i)) (sym q.1) g; busy = inl q.0; later = omega arith; gap = λ p h l. absurd (omega arith) }
-  begins start (inr q) = go j.held refl q.1 g.holds
+  begins start (inr q) = go j.state.held refl q.1 g.holds
     where
-      go : (r : Option Event) → j.held ≡ r → StartsAt start r → Holds w c (whole j.sweep) r g.left → BeginsAt start
+      go : (r : Option Event) → j.state.held ≡ r → StartsAt start r → Holds w c (whole j.sweep) r g.left → BeginsAt start
       go None h n e = absurd n
       go (Some (End at list)) h n e = absurd n
       go (Some (Start x list v)) h n e =
@@ -71,19 +71,19 @@ module _ {P : Type 0} {w : Width P} {c : Reading P} {ls : List (List Range)} {j 
           }
 
 -- where the stretch after the last one begins, and that there is none
-module _ {P : Type 0} {w : Width P} {c : Reading P} {ls : List (List Range)} {j : JoinSweep} (greatest : ℕ) (g : Joining w c ls j (2 * after j.last_end)) where
-  pub begins_at : {start : ℕ} → BegunAfter j greatest (Some start) → BeginsAt (after j.last_end) g start
+module _ {P : Type 0} {w : Width P} {c : Reading P} {ls : List (List Range)} {j : JoinSweepMut} (greatest : ℕ) (g : Joining w c ls j (2 * after j.state.last_end)) where
+  pub begins_at : {start : ℕ} → BegunAfter j.state greatest (Some start) → BeginsAt (after j.state.last_end) g start
   begins_at (inl q) = let z : ◌≡◌ {A = ℕ} 0 1 = cc in absurd (omega arith)
-  begins_at (inr b) = begins (after j.last_end) g _ b.1
+  begins_at (inr b) = begins (after j.state.last_end) g _ b.1
 
-  pub over : BegunAfter j greatest None → greatest + 1 ≡ w.points → NoStretch w.points ls (after j.last_end)
+  pub over : BegunAfter j.state greatest None → greatest + 1 ≡ w.points → NoStretch w.points ls (after j.state.last_end)
   over (inl q) n p h l = absurd (omega arith)
-  over (inr b) n p h l = nowhere (after j.last_end) g b.1 p h
+  over (inr b) n p h l = nowhere (after j.state.last_end) g b.1 p h
 
-module _ {P : Type 0} {w : Width P} {c : Reading P} {ls : List (List Range)} {j : JoinSweep} {start : ℕ} (o : Opened w c ls j start) where
+module _ {P : Type 0} {w : Width P} {c : Reading P} {ls : List (List Range)} {j : JoinSweepMut} {start : ℕ} (o : Opened w c ls j start) where
   -- what is active has not ended
-  pub ahead : Ahead start j.held
-  ahead = go j.held o.joining.holds
+  pub ahead : Ahead start j.state.held
+  ahead = go j.state.held o.joining.holds
     where
       go : (r : Option Event) → Holds w c (whole j.sweep) r o.joining.left → Ahead start r
       go None e =
@@ -95,13 +95,13 @@ module _ {P : Type 0} {w : Width P} {c : Reading P} {ls : List (List Range)} {j 
   -- up to the held event
   module _ {k : ℕ} (end : ℕ) (later : k ≤ start) (gap : (p : ℕ) → k ≤ p → p < start → column ls p ≡ nones ls) where
     -- the sweep as the stretch ends
-    abbrev ended : JoinSweep
-    ended = record { sweep = j.sweep; held = j.held; current = j.current; present = j.present; active_count = j.active_count; last_end = Some end }
+    abbrev ended : JoinSweepMut
+    ended = record { sweep = j.sweep; state = record { held = j.state.held; active_count = j.state.active_count; last_end = Some end }; current = j.current; present = j.present }
 
     abbrev found : Type 0
     found = Finds w c ls k ended (Some (record { start = start; end = end }))
 
-    upto : {x : rules.Event ℤ} → Took w c (whole j.sweep) x o.joining.left → start < edge x → end + 1 ≡ edge x → Later (2 * end + 1) j.held → found
+    upto : {x : rules.Event ℤ} → Took w c (whole j.sweep) x o.joining.left → start < edge x → end + 1 ≡ edge x → Later (2 * end + 1) j.state.held → found
     upto {x} e l r m =
         let f = rw e.1 at o.joining.front in
         let n = kind_small x in (
@@ -116,10 +116,10 @@ module _ {P : Type 0} {w : Width P} {c : Reading P} {ls : List (List Range)} {j 
           ended_at (moved o.joining (2 * end + 1) (omega arith) m) (Some end),
         )
 
-    pub stretch : Reached j.held end → found
-    stretch r = go j.held refl o.joining.holds ahead r
+    pub stretch : Reached j.state.held end → found
+    stretch r = go j.state.held refl o.joining.holds ahead r
       where
-        go : (h : Option Event) → j.held ≡ h → Holds w c (whole j.sweep) h o.joining.left → Ahead start h → Reached h end → found
+        go : (h : Option Event) → j.state.held ≡ h → Holds w c (whole j.sweep) h o.joining.left → Ahead start h → Reached h end → found
         go (Some (Start y list v)) q e l r = upto e l r (rw q (omega arith))
         go (Some (End at list)) q e l r = upto e l r (rw q (omega arith))
         go None q e l r = absurd l

@@ -1,4 +1,5 @@
 -- The laws of a join's sweep. Assumes nothing.
+pub mod Lent
 pub mod Turns
 pub mod Stretches
 pub mod First

@@ -9,10 +9,12 @@ use Rattle.slots.specs.Slots.{Slots, slots_of, active, Counted}
 use Rattle.slots.specs.Stretch.{Stretch, NoStretch}
 use Rattle.multiway_sweep.specs.Front.{edge, Front, Next as Due}
 use Rattle.multiway_sweep.specs.Steps.{Reading, whole, NoStart, On, Holds}
+use Rattle.multiway_sweep.specs.Sweeps.{Same as Parts}
 use Rattle.multiway_sweep.specs.declared.Range.{Range as Span}
 use Rattle.multiway_sweep.specs.declared.Event.{Event}
 use Rattle.multiway_sweep.specs.declared.Event.TheVariants.{Start, End}
 use Rattle.join_sweep.specs.declared.JoinSweep.{JoinSweep}
+use Rattle.join_sweep.specs.declared.JoinSweepMut.{JoinSweepMut}
 
 -- a start at s is held
 abbrev pub StartsAt : ℕ → Option Event → Type 0
@@ -73,43 +75,49 @@ abbrev pub Reached : Option Event → ℕ → Type 0
 Reached h r = On (λ e. r + 1 ≡ edge e) ⊥ h
 
 -- what the lists have on the last stretch
-abbrev pub places : JoinSweep → Slots
+abbrev pub places : JoinSweepMut → Slots
 places j = slots_of j.current.now j.present.now
 
 -- sixteen places that hold nothing
 abbrev pub nowhere : Slots
 nowhere = slots_of (replicate 16 (pos 0)) (replicate 16 false)
 
+-- r has the parts and places that s has, lent by the same
+pub record Same (s r : JoinSweepMut) : Type 0 where
+  pub sweep : Parts s.sweep r.sweep
+  pub current : r.current.ghost_name ≡ s.current.ghost_name
+  pub present : r.present.ghost_name ≡ s.present.ghost_name
+
 module _ {P : Type 0} (w : Width P) (c : Reading P) where
   -- before the first stretch: of the events that are left the first is held
-  pub record Ready (j : JoinSweep) (left : List (rules.Event ℤ)) : Type 0 where
-    pub holds : Holds w c (whole j.sweep) j.held left
+  pub record Ready (j : JoinSweepMut) (left : List (rules.Event ℤ)) : Type 0 where
+    pub holds : Holds w c (whole j.sweep) j.state.held left
     pub blank : places j ≡ nowhere
-    pub idle : j.active_count ≡ 0
-    pub first : j.last_end ≡ None
+    pub idle : j.state.active_count ≡ 0
+    pub first : j.state.last_end ≡ None
 
   module _ (ls : List (List Range)) where
     -- at the moment t a join has taken the events before, and has what the lists have then
-    pub record Joining (j : JoinSweep) (t : ℕ) : Type 0 where
+    pub record Joining (j : JoinSweepMut) (t : ℕ) : Type 0 where
       pub formed : AllWellFormed w.points ls
       pub current_long : length j.current.now ≡ 16
       pub present_long : length j.present.now ≡ 16
-      pub counted : Counted (length ls) j.active_count (places j)
+      pub counted : Counted (length ls) j.state.active_count (places j)
       pub left : List (rules.Event ℤ)
       pub front : Front ls t left (active (length ls) (places j))
-      pub holds : Holds w c (whole j.sweep) j.held left
+      pub holds : Holds w c (whole j.sweep) j.state.held left
 
     -- the starts of a point are taken, and something is active
-    pub record Opened (j : JoinSweep) (start : ℕ) : Type 0 where
+    pub record Opened (j : JoinSweepMut) (start : ℕ) : Type 0 where
       pub joining : Joining j (2 * start)
       pub taken : Due (2 * start + 1) joining.left
-      pub busy : 0 < j.active_count
+      pub busy : 0 < j.state.active_count
 
     -- the first stretch from k on and the sweep at its end, or there is none
-    abbrev pub Finds : ℕ → JoinSweep → Option Span → Type 0
+    abbrev pub Finds : ℕ → JoinSweepMut → Option Span → Type 0
     Finds k j None = NoStretch w.points ls k
-    Finds k j (Some x) = Stretch w.points ls k (active (length ls) (places j)) x.start x.end × (j.last_end ≡ Some x.end) × Joining j (2 * x.end + 1)
+    Finds k j (Some x) = Stretch w.points ls k (active (length ls) (places j)) x.start x.end × (j.state.last_end ≡ Some x.end) × Joining j (2 * x.end + 1)
 
   -- a join stands at a moment, whatever its lists
-  abbrev pub Stands : JoinSweep → ℕ → Type 0
+  abbrev pub Stands : JoinSweepMut → ℕ → Type 0
   Stands j t = (ls : List (List Range)) × Joining ls j t

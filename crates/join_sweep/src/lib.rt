@@ -12,97 +12,22 @@ ghost use Rattle.rules.specs.declared.Kind.{Kind};
 ghost use Rattle.multiway_sweep.specs.Steps.{reads, whole};
 ghost use Rattle.multiway_sweep.specs.Sweeps.{NewSweep};
 ghost use Rattle.join_sweep.specs.Stretches.{next_of, end_of, EndsWith, StartsWith, Busy, Begun, BegunAfter, Ahead, Reached};
-ghost use Rattle.join_sweep.specs.Stretches.{Ready, Joining, Stands, Opened, Finds};
+ghost use Rattle.join_sweep.specs.Stretches.{Ready, Joining, Stands, Opened, Finds, Same};
 
 use integer::Integer;
 use multiway_sweep::{Event, Range, SweepMut};
 use rules::Lists;
 
-// A sweep, of whose events one is held back; what the lists have on the last stretch, in sixteen places; how many of them are active;
-// and where that stretch ended.
-#[derive(Drop)]
-pub struct JoinSweep<'a> {
-    pub sweep: SweepMut<'a>,
+// A join's sweep, but for its arrays: the event that is held back, how many lists are active, and where the last stretch ended.
+#[derive(Clone, Copy)]
+pub struct JoinSweep {
     pub held: Option<Event>,
-    // Two arrays, as the combiners read them.
-    pub current: &'a mut [i32; 16],
-    pub present: &'a mut [bool; 16],
-    // How many are present, kept by what starts and ends: counting them anew for each stretch takes sixteen looks.
+    // How many lists are present, kept by what starts and ends: counting them anew for each stretch takes sixteen looks.
     pub active_count: usize,
     pub last_end: Option<u64>,
 }
 
-impl<'a> JoinSweep<'a> {
-    // The join's sweep of a sweep over the lists, before the first stretch, whatever stands in the places.
-    pub fn new<P: Integer>(
-        lent: Lists<P>,
-        sweep: SweepMut<'a>,
-        current: &'a mut [i32; 16],
-        present: &'a mut [bool; 16],
-    ) -> JoinSweep<'a>
-        requires formed { (k : Kind) × Formed P.width k (held lent) }
-        requires new { NewSweep P.width (held lent) (whole sweep) }
-        ensures { let l = held lent.entry in Ready P.width (reads l) result (events (lists P.width l)) }
-    {
-        let mut sweep = sweep;
-        let held = sweep.step(lent);
-        *current = [0; 16];
-        *present = [false; 16];
-        JoinSweep {
-            sweep,
-            held,
-            current,
-            present,
-            active_count: 0,
-            last_end: None,
-        }
-    }
-
-    // Advances to the next stretch: what ended with the last one is deactivated, what starts here is activated, and the stretch runs to
-    // the next event. The places then hold what the lists have on it.
-    pub fn next_stretch<P: Integer>(&mut self, lent: Lists<P>) -> Option<Range>
-        requires stands { Stands P.width (reads (held lent)) self.old (end_of self.old) }
-        requires within { next_of self.old ≤ P.width.points }
-        ensures { (ls : List (List rules.Range)) → Joining P.width (reads (held lent.entry)) ls self.old (end_of self.old) →
-            Finds P.width (reads (held lent.entry)) ls (next_of self.old) self.new result }
-    {
-        self.close(lent);
-        let start = self.begin_after(P::greatest_key())?;
-        self.open(start, lent);
-        let end = self.reach(start);
-        self.last_end = Some(end);
-        Some(Range { start, end })
-    }
-
-    // Deactivates what ended with the last stretch.
-    fn close<P: Integer>(&mut self, lent: Lists<P>)
-        requires { Stands P.width (reads (held lent)) self.old (end_of self.old) }
-        ensures closed { (ls : List (List rules.Range)) → Joining P.width (reads (held lent.entry)) ls self.old (end_of self.old) →
-            Joining P.width (reads (held lent.entry)) ls self.new (2 * next_of self.new) }
-        ensures end { self.new.last_end ≡ self.old.last_end }
-    {
-        while let Some(list) = self.ending() {
-            self.present[list] = false;
-            self.active_count -= 1;
-            self.held = self.sweep.step(lent);
-        }
-    }
-
-    // Activates what starts at a point.
-    fn open<P: Integer>(&mut self, start: u64, lent: Lists<P>)
-        requires busy { Busy start self.old }
-        requires stands { Stands P.width (reads (held lent)) self.old (2 * start) }
-        ensures { (ls : List (List rules.Range)) → Joining P.width (reads (held lent.entry)) ls self.old (2 * start) →
-            Opened P.width (reads (held lent.entry)) ls self.new start }
-    {
-        while let Some((list, value)) = self.starting(start) {
-            self.current[list] = value;
-            self.present[list] = true;
-            self.active_count += 1;
-            self.held = self.sweep.step(lent);
-        }
-    }
-
+impl JoinSweep {
     // The list whose range ended with the last stretch, where that is the held event.
     pub fn ending(&self) -> Option<usize>
         ensures { EndsWith self.now.held self.now.last_end result }
@@ -167,6 +92,95 @@ impl<'a> JoinSweep<'a> {
             Some(Event::Start(range, _, _)) => range.start - 1,
             Some(Event::End(at, _)) => at,
             None => start,
+        }
+    }
+}
+
+// The same with the sweep of whose events one is held back, and with what the lists have on the last stretch, in sixteen places that are
+// lent.
+#[derive(Drop)]
+pub struct JoinSweepMut<'a> {
+    pub sweep: SweepMut<'a>,
+    pub state: JoinSweep,
+    // Two arrays, as the combiners read them.
+    pub current: &'a mut [i32; 16],
+    pub present: &'a mut [bool; 16],
+}
+
+impl<'a> JoinSweepMut<'a> {
+    // The join's sweep of a sweep over the lists, before the first stretch, whatever stands in the places.
+    pub fn new<P: Integer>(
+        lent: Lists<P>,
+        sweep: SweepMut<'a>,
+        current: &'a mut [i32; 16],
+        present: &'a mut [bool; 16],
+    ) -> JoinSweepMut<'a>
+        requires formed { (k : Kind) × Formed P.width k (held lent) }
+        requires new { NewSweep P.width (held lent) (whole sweep) }
+        ensures ready { let l = held lent.entry in Ready P.width (reads l) result (events (lists P.width l)) }
+        ensures same { Same (record { sweep = sweep.entry; state = result.state; current = current.entry; present = present.entry }) result }
+    {
+        let mut sweep = sweep;
+        let held = sweep.step(lent);
+        *current = [0; 16];
+        *present = [false; 16];
+        JoinSweepMut {
+            sweep,
+            state: JoinSweep {
+                held,
+                active_count: 0,
+                last_end: None,
+            },
+            current,
+            present,
+        }
+    }
+
+    // Advances to the next stretch: what ended with the last one is deactivated, what starts here is activated, and the stretch runs to
+    // the next event. The places then hold what the lists have on it.
+    pub fn next_stretch<P: Integer>(&mut self, lent: Lists<P>) -> Option<Range>
+        requires stands { Stands P.width (reads (held lent)) self.old (end_of self.old.state) }
+        requires within { next_of self.old.state ≤ P.width.points }
+        ensures finds { (ls : List (List rules.Range)) → Joining P.width (reads (held lent.entry)) ls self.old (end_of self.old.state) →
+            Finds P.width (reads (held lent.entry)) ls (next_of self.old.state) self.new result }
+        ensures same { Same self.old self.new }
+    {
+        self.close(lent);
+        let start = self.state.begin_after(P::greatest_key())?;
+        self.open(start, lent);
+        let end = self.state.reach(start);
+        self.state.last_end = Some(end);
+        Some(Range { start, end })
+    }
+
+    // Deactivates what ended with the last stretch.
+    fn close<P: Integer>(&mut self, lent: Lists<P>)
+        requires { Stands P.width (reads (held lent)) self.old (end_of self.old.state) }
+        ensures closed { (ls : List (List rules.Range)) → Joining P.width (reads (held lent.entry)) ls self.old (end_of self.old.state) →
+            Joining P.width (reads (held lent.entry)) ls self.new (2 * next_of self.new.state) }
+        ensures end { self.new.state.last_end ≡ self.old.state.last_end }
+        ensures same { Same self.old self.new }
+    {
+        while let Some(list) = self.state.ending() {
+            self.present[list] = false;
+            self.state.active_count -= 1;
+            self.state.held = self.sweep.step(lent);
+        }
+    }
+
+    // Activates what starts at a point.
+    fn open<P: Integer>(&mut self, start: u64, lent: Lists<P>)
+        requires busy { Busy start self.old.state }
+        requires stands { Stands P.width (reads (held lent)) self.old (2 * start) }
+        ensures opened { (ls : List (List rules.Range)) → Joining P.width (reads (held lent.entry)) ls self.old (2 * start) →
+            Opened P.width (reads (held lent.entry)) ls self.new start }
+        ensures same { Same self.old self.new }
+    {
+        while let Some((list, value)) = self.state.starting(start) {
+            self.current[list] = value;
+            self.present[list] = true;
+            self.state.active_count += 1;
+            self.state.held = self.sweep.step(lent);
         }
     }
 }

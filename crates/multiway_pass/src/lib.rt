@@ -22,7 +22,7 @@ ghost use Rattle.multiway_pass.specs.Outputs.{columns_of, Puts};
 use combine::combine;
 use heap::Heap;
 use integer::{Integer, put_key};
-use join_sweep::JoinSweep;
+use join_sweep::JoinSweepMut;
 use many_way_rules::Admission;
 use multiway_sweep::{NO_COURSES, SweepMut};
 use rules::Lists;
@@ -75,12 +75,12 @@ fn rule_of_stretch(
     admission: Admission,
     combiner: u8,
     lists: usize,
-    sweep: &JoinSweep,
+    sweep: &JoinSweepMut,
 ) -> Option<i64>
-    requires { Counted lists sweep.now.active_count (places sweep.now) }
+    requires { Counted lists sweep.now.state.active_count (places sweep.now) }
     ensures { result ≡ rule_of (Join admission combiner) (active lists (places sweep.now)) }
 {
-    let count = sweep.active_count;
+    let count = sweep.state.active_count;
     rule_on(
         admission,
         combiner,
@@ -162,7 +162,7 @@ pub fn pass<P: Integer>(
     let events = SweepMut::new(lent, &mut courses, &mut starts, &mut active_ends);
     let mut current = [0; 16];
     let mut present = [false; 16];
-    let mut sweep = JoinSweep::new(lent, events, &mut current, &mut present);
+    let mut sweep = JoinSweepMut::new(lent, events, &mut current, &mut present);
     let mut pending = None;
     let mut count: usize = 0;
     while let Some(range) = sweep.next_stretch(lent) {

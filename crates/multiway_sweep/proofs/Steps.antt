@@ -2,7 +2,7 @@
 use Prim.Native.Nat.{ℕ, ◌+◌, ◌<◌, ◌≤◌}
 use mathlib.Core.Path.{◌≡◌, refl, sym, ap, ◌∙◌}
 use mathlib.Core.Logic.{◌⊎◌, inl, inr, ⊎_elim}
-use mathlib.Core.Bool.{true, false, false≢true}
+use mathlib.Core.Bool.{true, false}
 use mathlib.Core.List.{List, [], ◌∷◌}
 use native.Mathlib.Omega.{arith}
 use Rattle.std.specs.declared.option.Option.{Option}
@@ -29,7 +29,7 @@ module _ {P : Type 0} {w : Width P} {c : Reading P} {s : Sweep} {rest : List (ru
   nothing_left = all_done g.stands
 
   -- the end on top of its heap goes
-  pub end_taken : (next : Option Entry) {end : Entry} {r : Heap} → Top s.starts next → Top s.active_ends (Some end) → EndFirst next end.key true → Popped s.active_ends r → Stepped w c s (record { courses = s.courses; starts = s.starts; active_ends = r }) rest (Some (End end.key end.list))
+  pub end_taken : (next : Option Entry) {end : Entry} {r : Heap} → Top s.starts next → Top s.active_ends (Some end) → EndFirst next (Some end) true → Popped s.active_ends r → Stepped w c s (record { courses = s.courses; starts = s.starts; active_ends = r }) rest (Some (End end.key end.list))
   end_taken next {end} {r} t u e pop = go next t e
     where
       went : (skey j : ℕ) → top s.starts ≡ rank skey j → (s.starts.len ≡ 0) ⊎ (end.key < skey) → Stepped w c s (record { courses = s.courses; starts = s.starts; active_ends = r }) rest (Some (End end.key end.list))
@@ -37,9 +37,9 @@ module _ {P : Type 0} {w : Width P} {c : Reading P} {s : Sweep} {rest : List (ru
           let x = ended g.stands skey j end.key end.list least u.2 u.1 u.0 d pop in
           (tt, (x.0, x.1, record { starts_long = g.starts_long; ends_long = g.ends_long; courses_long = g.courses_long; stands = x.2 }))
 
-      go : (next : Option Entry) → Top s.starts next → EndFirst next end.key true → Stepped w c s (record { courses = s.courses; starts = s.starts; active_ends = r }) rest (Some (End end.key end.list))
+      go : (next : Option Entry) → Top s.starts next → EndFirst next (Some end) true → Stepped w c s (record { courses = s.courses; starts = s.starts; active_ends = r }) rest (Some (End end.key end.list))
       go None z e = went _ _ refl (inl z)
-      go (Some start) t e = went start.key start.list t.2 (inr (e.0 refl))
+      go (Some start) t e = went start.key start.list t.2 (inr (e.yes refl))
 
   -- the start on top of its heap is next where no end is, or none is before it
   due : (start : Entry) → Top s.starts (Some start) → (s.active_ends.len ≡ 0) ⊎ ((end : Entry) × Top s.active_ends (Some end) × (start.key ≤ end.key)) → Due w c s start
@@ -59,13 +59,13 @@ module _ {P : Type 0} {w : Width P} {c : Reading P} {s : Sweep} {rest : List (ru
   pub due_alone : {start : Entry} → Top s.starts (Some start) → Top s.active_ends None → Due w c s start
   due_alone first z = due _ first (inl z)
 
-  pub due_before : (next : Option Entry) (start end : Entry) → Top s.starts next → Top s.starts (Some start) → Top s.active_ends (Some end) → EndFirst next end.key false → Due w c s start
-  due_before None start end u first t e = absurd (false≢true e)
-  due_before (Some n) start end u first t e = let q = (rank_one u.1 first.1 (sym u.2 ∙ first.2)).0 in due _ first (inr (end, t, omega (arith, q, e.1 refl)))
+  pub due_before : (next : Option Entry) (start end : Entry) → Top s.starts next → Top s.starts (Some start) → Top s.active_ends (Some end) → EndFirst next (Some end) false → Due w c s start
+  due_before None start end u first t e = absurd (e.no refl)
+  due_before (Some n) start end u first t e = let q = (rank_one u.1 first.1 (sym u.2 ∙ first.2)).0 in due _ first (inr (end, t, omega (arith, q, e.no refl)))
 
 -- where no start is left, each end comes before it
-pub no_start : (s : Sweep) (end : ℕ) (next : Option Entry) → Top s.starts next → Top s.starts None → EndFirst next end false → ⊥
-no_start s end None t z e = false≢true e
+pub no_start : (s : Sweep) (end : Entry) (next : Option Entry) → Top s.starts next → Top s.starts None → EndFirst next (Some end) false → ⊥
+no_start s end None t z e = e.no refl
 no_start s end (Some n) t z e = omega (arith, t.0)
 
 -- a start that is next
@@ -87,6 +87,10 @@ module _ {P : Type 0} {w : Width P} {c : Reading P} {s : Sweep} {start : Entry} 
 
   stays : (i : ℕ) → stop_at onward i ≡ stop_at s.courses i
   stays i = by_eq i j (λ q. ap (stop_at onward) q ∙ ap (λ x. x.stop) own ∙ ap (stop_at s.courses) (sym q)) (λ ne. ap (λ x. x.stop) (other i ne))
+
+  -- where the list has another range, that has a start
+  pub another_there : place + 1 < stop_at onward j → place + 1 < length c.starts
+  another_there l = omega (arith, l, stays j, d.there.within, d.starts_long)
 
   -- with what was read of its range
   module _ {end : ℕ} {value : ℤ} (e : end ≡ keys w c.ends place) (v : value ≡ get_or c.values place (pos 0)) (q r : Heap) (push : Pushed s.active_ends q (rank end j)) where

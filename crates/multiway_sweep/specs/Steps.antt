@@ -13,10 +13,22 @@ use Rattle.multiway_sweep.specs.declared.Event.TheVariants.{Start, End}
 use Rattle.multiway_sweep.specs.declared.Sweep.{Sweep}
 use Rattle.multiway_sweep.specs.declared.SweepMut.{SweepMut}
 
--- whether the earliest end comes before the next start, if there is one
-abbrev pub EndFirst : Option Entry → ℕ → Bool → Type 0
-EndFirst None end r = r ≡ true
-EndFirst (Some start) end r = (r ≡ true → end < start.key) × (r ≡ false → start.key ≤ end)
+-- an end is there, and no start comes before it or with it
+abbrev pub Ends : Option Entry → Option Entry → Type 0
+Ends next None = ⊥
+Ends None (Some end) = Unit {0}
+Ends (Some start) (Some end) = end.key < start.key
+
+-- no end is there, or a start comes before it or with it
+abbrev pub Starts : Option Entry → Option Entry → Type 0
+Starts next None = Unit {0}
+Starts None (Some end) = ⊥
+Starts (Some start) (Some end) = start.key ≤ end.key
+
+-- whether the earliest end comes before the next start, where there is one or none
+pub record EndFirst (next end : Option Entry) (r : Bool) : Type 0 where
+  pub yes : r ≡ true → Ends next end
+  pub no : r ≡ false → Starts next end
 
 abbrev pub event_of : Event → rules.Event ℤ
 event_of (Start r list value) = rules.starts r.start list value

@@ -30,8 +30,8 @@ pub enum Event {
 // Of a list the place of its next range and the place past its last.
 #[derive(Clone, Copy)]
 pub struct Course {
-    next: usize,
-    stop: usize,
+    pub next: usize,
+    pub stop: usize,
 }
 
 pub type Courses = [Course; 16];
@@ -43,18 +43,18 @@ pub const NO_COURSES: Courses = [Course { next: 0, stop: 0 }; 16];
 // the form by value, whose step is `next`; the joins sweep over lent parts.
 #[derive(Clone, Copy)]
 pub struct Sweep {
-    courses: Courses,
-    starts: Heap,
-    active_ends: Heap,
+    pub courses: Courses,
+    pub starts: Heap,
+    pub active_ends: Heap,
 }
 
 // The same, of parts that are lent. Who sweeps lends three: what is larger than one of them is laid by a call of memset, which takes
 // more stack than C callers are promised.
 #[derive(Drop)]
 pub struct SweepMut<'a> {
-    courses: &'a mut Courses,
-    starts: &'a mut Heap,
-    active_ends: &'a mut Heap,
+    pub courses: &'a mut Courses,
+    pub starts: &'a mut Heap,
+    pub active_ends: &'a mut Heap,
 }
 
 // What a step of a sweep took, if an event was left, and the sweep after it.
@@ -64,12 +64,15 @@ pub struct Advance {
     pub sweep: Sweep,
 }
 
-// Whether the earliest end comes before the next start: it closes first exactly when it is less.
-pub fn end_first(next: Option<Entry>, end: u64) -> bool
+// Whether the earliest end comes before the next start, where there is one or none: it closes first exactly when it is less.
+pub fn end_first(next: Option<Entry>, end: Option<Entry>) -> bool
     ensures { EndFirst next end result }
 {
+    let Some(end) = end else {
+        return false;
+    };
     match next {
-        Some(start) => end < start.key,
+        Some(start) => end.key < start.key,
         None => true,
     }
 }
@@ -121,7 +124,8 @@ impl<'a> SweepMut<'a> {
         active_ends: &'a mut Heap,
     ) -> SweepMut<'a>
         requires { (length lent.counts.now ≤ 16) × (total lent.counts.now ≡ length lent.starts.now) }
-        ensures { NewSweep P.width (held lent.entry) (whole result) }
+        ensures begins { NewSweep P.width (held lent.entry) (whole result) }
+        ensures same { Same (record { courses = courses.entry; starts = starts.entry; active_ends = active_ends.entry }) result }
     {
         fill(lent, courses, starts);
         *active_ends = Heap::new();
@@ -142,7 +146,7 @@ impl<'a> SweepMut<'a> {
         ensures same { Same self.old self.new }
     {
         if let Some(end) = self.active_ends.top() {
-            if end_first(self.starts.top(), end.key) {
+            if end_first(self.starts.top(), Some(end)) {
                 self.active_ends.pop();
                 return Some(Event::End(end.key, end.list as usize));
             }

@@ -100,6 +100,11 @@ module _ {P : Type 0} (w : Width P) where
     unfolding price_at
     price_found h f q = rw (← e, lt-ltb 0 m h, ← f) q
 
+  -- only the places that count matter
+  pub price_same : (c : Merged P) (n p : ℕ) {m : ℕ} {x : Option ℤ} → m ≡ places c n → x ≡ price_at w c m p → x ≡ price_at w c n p
+  unfolding price_at
+  price_same c n p {m} e f = let q : places c m ≡ places c n = omega arith in f ∙ rw q
+
   pub price_is_at : (c : Merged P) (n p d : ℕ) → Within 0 d (pieces c n) → price_at w c n p ≡ at (pieces c n) p
   price_is_at c n p d a = go (le_or_lt (places c n) 0)
     where

@@ -83,23 +83,24 @@ fn replay(list: &[u8]) -> Tally {
     }
 }
 
-// Says what came of the list.
-fn report(rt: &HostRuntime, tally: Tally) -> io::Result<()> {
-    println!(rt; "{} files agree, {} differ", tally.agree, tally.differ)?;
+// Says what came of the list. A line that cannot be written is passed over.
+fn report(rt: &HostRuntime, tally: Tally) {
+    let _ = println!(rt; "{} files agree, {} differ", tally.agree, tally.differ);
     if let Some(first) = tally.first {
-        println!(rt; "the first that differs is file {first}, counted from 1")?;
+        let _ = println!(rt; "the first that differs is file {first}, counted from 1");
     }
     if !tally.whole {
-        println!(rt; "the list breaks off")?;
+        let _ = println!(rt; "the list breaks off");
     }
-    Ok(())
 }
 
 fn main(rt: HostRuntime) -> io::Result<()> {
     let mut list: [u8; LIST_ROOM] = [0; LIST_ROOM];
     let length = read_full(&mut fs::open(&rt, "answers.bin")?, &mut list)?;
     if length == LIST_ROOM {
-        return println!(rt; "the list has more bytes than there is room for");
+        let _ = println!(rt; "the list has more bytes than there is room for");
+        return Ok(());
     }
-    report(&rt, replay(&list[..length]))
+    report(&rt, replay(&list[..length]));
+    Ok(())
 }

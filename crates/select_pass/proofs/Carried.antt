@@ -16,11 +16,13 @@ use Rattle.many_way_rules.specs.declared.Admission.{Admission}
 use Rattle.many_way_rules.specs.declared.Pick.TheVariants.{Highest}
 use Rattle.many_way_rules.proofs.Selections.{by_number, admitted_number, highest_none, highest_exactly}
 use Rattle.active_lists.specs.Active.{Active, Stands, Alike, members, with, without, has, number, IsHighest}
+use Rattle.active_lists.specs.Kept.{Fields, seen}
 use Rattle.active_lists.proofs.Sets.{number_present, has_set, has_none, has_last}
 use Rattle.active_lists.proofs.Stands.{stands_same, stands_but, number_of, highest_of}
+use Rattle.multiway_sweep.specs.declared.Event.{Event}
 use Rattle.multiway_sweep.specs.declared.Event.TheVariants.{End}
 use Rattle.select_pass.specs.Stretches.{starts_after}
-use Rattle.select_pass.specs.Selections.{Held, Carried, chosen}
+use Rattle.select_pass.specs.Selections.{Held, Carried, Unchanged, Takes, chosen}
 use Rattle.select_pass.specs.declared.Selection.{Selection}
 
 -- a list that has something has a value
@@ -41,17 +43,25 @@ module _ (a : Admission) {s : Selection} {act : Held} (k : Carried s act) {b : B
   chosen_is : picked Highest act ≡ chosen a act
   chosen_is = rw (sym e ∙ h)
 
-  pub kept_none : IsHighest (members s.active) None → None ≡ chosen a act
+  pub kept_none : IsHighest (members (seen s.active)) None → None ≡ chosen a act
   kept_none f = sym ((highest_none act).1 (has_none act k.few (highest_of k.stands None f))) ∙ chosen_is
 
-  pub kept_top : {list : ℕ} → IsHighest (members s.active) (Some list) → Some (get_or s.current list (pos 0)) ≡ chosen a act
+  pub kept_top : {list : ℕ} → IsHighest (members (seen s.active)) (Some list) → Some (get_or s.current list (pos 0)) ≡ chosen a act
   kept_top {list} f =
       let t = highest_of k.stands (Some list) f in
       let o = something (get_or act list None) t.inside in
       ap Some (k.values list o.0 o.1) ∙ sym ((highest_exactly act o.0).1 (record { place = list; there = o.1; later = has_last act k.few list t })) ∙ chosen_is
 
+-- what is unchanged has what it had, and takes an event so
+module _ {s t : Selection} (u : Unchanged s t) where
+  pub carried_on : {act : Held} → Carried s act → Carried t act
+  carried_on k = record { few = k.few; long = ap length u.current ∙ k.long; stands = rw u.active k.stands; values = rw u.current k.values }
+
+  pub takes_on : (e : Event) (greatest : ℕ) {r : Selection} → Takes (Some e) greatest t r → Takes (Some e) greatest s r
+  takes_on e greatest h act k f = h act (carried_on k) f
+
 -- a list begins with a value
-pub began : {s : Selection} {act : Held} → Carried s act → {list : ℕ} → list < length act → {active : Active} → Alike (members active) (with (members s.active) list) → {v u : ℤ} → u ≡ v → (start : Option ℕ) → Carried (record { current = set s.current list u; active = active; stretch_start = start }) (set act list (Some v))
+pub began : {s : Selection} {act : Held} → Carried s act → {list : ℕ} → list < length act → {active : Fields} → Alike (members (seen active)) (with (members (seen s.active)) list) → {v u : ℤ} → u ≡ v → (start : Option ℕ) → Carried (record { current = set s.current list u; active = active; stretch_start = start }) (set act list (Some v))
 began {s} {act} k {list} l h {v} {u} q start =
     record {
       few = omega (arith, length-set act list (Some v), k.few);
@@ -68,7 +78,7 @@ began {s} {act} k {list} l h {v} {u} q start =
     }
 
 -- a list that has something ends
-module _ {s : Selection} {act : Held} (k : Carried s act) {list : ℕ} (l : list < length act) {active : Active} (h : Alike (members active) (without (members s.active) list)) where
+module _ {s : Selection} {act : Held} (k : Carried s act) {list : ℕ} (l : list < length act) {active : Fields} (h : Alike (members (seen active)) (without (members (seen s.active)) list)) where
   pub ended : (start : Option ℕ) → Carried (record { current = s.current; active = active; stretch_start = start }) (set act list None)
   ended start =
       record {
@@ -86,5 +96,5 @@ module _ {s : Selection} {act : Held} (k : Carried s act) {list : ℕ} (l : list
       }
 
   -- so many lists are active then
-  pub end_taken : (at greatest : ℕ) {n : ℕ} → n ≡ number (members active) → {b : Bool} → (ltb 0 n && ltb at greatest) ≡ b → {start : Option ℕ} → start ≡ cond b (Some (at + 1)) None → let after = set act list None in Carried (record { current = s.current; active = active; stretch_start = start }) after × (start ≡ starts_after (End at list) (length (present after)) greatest)
+  pub end_taken : (at greatest : ℕ) {n : ℕ} → n ≡ number (members (seen active)) → {b : Bool} → (ltb 0 n && ltb at greatest) ≡ b → {start : Option ℕ} → start ≡ cond b (Some (at + 1)) None → let after = set act list None in Carried (record { current = s.current; active = active; stretch_start = start }) after × (start ≡ starts_after (End at list) (length (present after)) greatest)
   end_taken at greatest q p {start} e = let c = ended start in (c, rw (← q ∙ active_number (set act list None) c.few c.stands, p) e)

@@ -9,6 +9,7 @@ use Rattle.many_way_rules.specs.declared.Admission.{Admission}
 use Rattle.many_way_rules.specs.declared.Operation.TheVariants.{Select}
 use Rattle.many_way_rules.specs.declared.Pick.TheVariants.{Highest}
 use Rattle.active_lists.specs.Active.{Active, Stands, has}
+use Rattle.active_lists.specs.Kept.{seen}
 use Rattle.multiway_sweep.specs.Front.{apply}
 use Rattle.multiway_sweep.specs.Steps.{event_of}
 use Rattle.multiway_sweep.specs.declared.Range.{Range as Span}
@@ -25,14 +26,20 @@ Held = List (Option ℤ)
 pub record Carried (s : Selection) (act : Held) : Type 0 where
   pub few : length act ≤ 16
   pub long : length s.current ≡ 16
-  pub stands : Stands s.active (has act)
+  pub stands : Stands (seen s.active) (has act)
   pub values : (i : ℕ) (v : ℤ) → get_or act i None ≡ Some v → get_or s.current i (pos 0) ≡ v
 
 -- before the first event
 pub record Blank (s : Selection) : Type 0 where
   pub current : s.current ≡ replicate 16 (pos 0)
-  pub active : s.active ≡ replicate 16 false
+  pub active : seen s.active ≡ replicate 16 false
   pub start : s.stretch_start ≡ None
+
+-- t has what s has; how the set of active lists is kept may differ
+pub record Unchanged (s t : Selection) : Type 0 where
+  pub current : t.current ≡ s.current
+  pub active : seen t.active ≡ seen s.active
+  pub start : t.stretch_start ≡ s.stretch_start
 
 -- r is whether what so many lists have is admitted
 abbrev pub Keeps : Admission → ℕ → Active → Bool → Type 0

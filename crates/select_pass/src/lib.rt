@@ -9,11 +9,12 @@ ghost use Rattle.rules.specs.Merged.{lay};
 ghost use Rattle.many_way_rules.specs.Operations.{merged};
 ghost use Rattle.many_way_rules.specs.declared.Pick.TheVariants.{Highest};
 ghost use Rattle.many_way_rules.specs.declared.Operation.TheVariants.{Select};
+ghost use Rattle.active_lists.specs.Kept.{seen};
 ghost use Rattle.multiway_pass.specs.Pieces.{waiting};
 ghost use Rattle.multiway_pass.specs.Passes.{Mergeable};
 ghost use Rattle.multiway_pass.specs.Outputs.{columns_of, Puts};
 ghost use Rattle.select_pass.specs.Stretches.{StretchesTo};
-ghost use Rattle.select_pass.specs.Selections.{Blank, Keeps, Says, Emits, Due, Takes};
+ghost use Rattle.select_pass.specs.Selections.{Blank, Unchanged, Keeps, Says, Emits, Due, Takes};
 
 use active_lists::Active;
 use heap::Heap;
@@ -24,7 +25,7 @@ use multiway_sweep::{Event, NO_COURSES, Range, SweepMut};
 use rules::Lists;
 
 // What the lists have on the current stretch: their values, and which of them are active; where it starts, while one is.
-#[derive(Drop)]
+#[derive(Clone, Copy)]
 pub struct Selection {
     pub current: [i32; 16],
     pub active: Active,
@@ -49,7 +50,7 @@ pub fn stretch_before(event: Option<Event>, stretch_start: Option<u64>) -> Optio
 
 // Whether the points are admitted at which so many lists have what is active.
 fn keeps(admission: Admission, lists: usize, active: &Active) -> bool
-    ensures { Keeps admission lists active.now result }
+    ensures { Keeps admission lists (seen active.now) result }
 {
     match admission {
         Admission::Odd => active.odd(),
@@ -71,7 +72,7 @@ impl Selection {
 
     // What a selection says of a stretch: the value of the highest active list, where it is admitted.
     fn highest_value(&mut self, admission: Admission, lists: usize) -> Option<i64>
-        ensures same { self.new ≡ self.old }
+        ensures same { Unchanged self.old self.new }
         ensures says { Says admission lists self.old result }
     {
         if !keeps(admission, lists, &self.active) {
@@ -88,7 +89,7 @@ impl Selection {
         lists: usize,
         stretch: Option<Range>,
     ) -> Option<Piece>
-        ensures same { self.new ≡ self.old }
+        ensures same { Unchanged self.old self.new }
         ensures piece { Emits admission lists self.old stretch (waiting result) }
     {
         let range = stretch?;

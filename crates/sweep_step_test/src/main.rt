@@ -8,7 +8,7 @@ ghost use Rattle.std.specs.Prelude.{◌≤◌};
 
 use drained::{Unlike, compared};
 use integer::{Instant, Seat};
-use std::{fmt, io};
+use std::fmt;
 
 #[derive(Drop)]
 struct Found(Result<usize, Unlike>);
@@ -23,22 +23,22 @@ impl fmt::Display for Found {
     }
 }
 
-// The first n ranges, in lists that the counts tell.
-fn print_set(rt: &HostRuntime, counts: &[u32], n: usize) -> io::Result<()>
+// The first n ranges, in lists that the counts tell. A line that cannot be written is passed over.
+fn print_set(rt: &HostRuntime, counts: &[u32], n: usize)
     requires { n ≤ 8 }
 {
     let lists = counts.len();
     let seats = Found(compared::<Seat>(counts, n, &mut [0; 8], &mut [0; 8], &mut [0; 16]));
     let instants = Found(compared::<Instant>(counts, n, &mut [0; 8], &mut [0; 8], &mut [0; 16]));
-    println!(rt; "{lists} lists: seats {seats}, instants {instants}")
+    let _ = println!(rt; "{lists} lists: seats {seats}, instants {instants}");
 }
 
-fn main(rt: HostRuntime) -> io::Result<()> {
-    print_set(&rt, &[0], 0)?;
-    print_set(&rt, &[3], 3)?;
-    print_set(&rt, &[3, 2], 5)?;
-    print_set(&rt, &[3, 2, 3], 8)?;
-    print_set(&rt, &[0, 3, 0, 2, 3, 0], 8)?;
-    print_set(&rt, &[1, 1, 1, 1, 1, 1, 1, 1], 8)?;
-    print_set(&rt, &[1, 0, 1, 0, 1, 0, 1, 0, 1, 0, 1, 0, 1, 0, 0, 1], 8)
+fn main(rt: HostRuntime) {
+    print_set(&rt, &[0], 0);
+    print_set(&rt, &[3], 3);
+    print_set(&rt, &[3, 2], 5);
+    print_set(&rt, &[3, 2, 3], 8);
+    print_set(&rt, &[0, 3, 0, 2, 3, 0], 8);
+    print_set(&rt, &[1, 1, 1, 1, 1, 1, 1, 1], 8);
+    print_set(&rt, &[1, 0, 1, 0, 1, 0, 1, 0, 1, 0, 1, 0, 1, 0, 0, 1], 8);
 }

@@ -1,11 +1,34 @@
--- For code that reads a slice: its bytes, and records in turn. Assumes nothing.
-use Prim.Native.Nat.{ℕ, zero, suc, ◌<◌}
+-- For code that reads a slice: a number byte by byte, its bytes, and records in turn. Assumes nothing.
+use Prim.Native.Nat.{ℕ, zero, suc, ◌+◌, ◌*◌, ◌^◌, ◌<◌}
 use mathlib.Core.Path.{◌≡◌, refl, sym, ap, ◌∙◌}
 use mathlib.Core.List.{List, [], ◌∷◌, ◌++◌, append_assoc}
-use lib.ListN.{get_or, drop}
-use Rattle.tariff_file.specs.Layout.{Bytes}
+use native.Mathlib.Omega.{arith}
+use native.Mathlib.Nat.{pow-suc}
+use native.Mathlib.Numerals.{add-one}
+use lib.ListN.{length, get_or, take, drop, length-append, length-drop}
+use lib.Seq.{take-suc, get_or-drop}
+use Rattle.tariff_file.specs.Layout.{Bytes, number}
 use Rattle.tariff_file.specs.Reader.{Parsed, stop, got, Reader, follow, ◌then◌, many}
 use Rattle.tariff_file.specs.declared.Refusal.{Refusal}
+
+-- one more byte of a number
+number_snoc : (b : List ℕ) (x : ℕ) → number (b ++ (x ∷ [])) ≡ number b * 256 + x
+unfolding number
+number_snoc [] x = omega arith
+number_snoc (a ∷ b) x =
+    let l : length (b ++ (x ∷ [])) ≡ suc (length b) = length-append b (x ∷ []) ∙ add-one (length b) in
+    let e : a * 256 ^ length (b ++ (x ∷ [])) ≡ a * (256 ^ length b * 256) = ap (λ (n : ℕ). a * 256 ^ n) l ∙ ap (λ (n : ℕ). a * n) (pow-suc 256 (length b)) in
+    omega (arith, e, number_snoc b x)
+
+pub number_more : (s : List ℕ) (k j : ℕ) → k + j < length s → number (take (suc j) (drop k s)) ≡ number (take j (drop k s)) * 256 + get_or s (k + j) 0
+number_more s k j h =
+    ap number (take-suc (drop k s) j 0 (omega (arith, length-drop k s)))
+    ∙ number_snoc (take j (drop k s)) (get_or (drop k s) j 0)
+    ∙ ap (λ (x : ℕ). number (take j (drop k s)) * 256 + x) (get_or-drop k s j 0)
+
+pub number_start : (s : List ℕ) (k : ℕ) → number (take 0 (drop k s)) ≡ 0
+unfolding number
+number_start s k = refl
 
 -- a slice of u8 is bytes, and so is what is left of it
 pub bytes_of : (s : List ℕ) → ((i : ℕ) → get_or s i 0 < 256) → (at : ℕ) → Bytes (drop at s)

@@ -45,12 +45,16 @@ module _ {P T : Type 0} (w : Width P) (s e : T → P) (v : T → ℤ) where
     in_columns : ranges starts ends (λ j. j) 0 (length ys) ≡ placed range 0 ys
     in_columns = by_place starts ends 0 ys (λ k. ap starts (add-zero k)) (λ k. ap ends (add-zero k))
 
-    -- what `form::judge` answers for the columns, and what `judge_tariffs` answers for the structs
-    pub alone : length ys ≤ 2048 → {c r : Judgement} → Judged w Listing column c → r ≡ judge_list None (placed range 0 ys) → r ≡ c
+    -- whatever the ends are
+    pub alone : length ys ≤ 2048 → judge w Listing column ≡ judge_list None (placed range 0 ys)
     unfolding judge
-    alone h c r =
-        r
-        ∙ sym (c.is ∙ rw (length-map ys s, length-map ys e, length-map ys v, add-zero (length ys), eq-eqb (length ys) (length ys) refl, le-ltb 2048 (length ys) h, in_columns) (or_sound (judge_list None (placed range 0 ys))))
+    alone h =
+        rw (length-map ys s, length-map ys e, length-map ys v, add-zero (length ys), eq-eqb (length ys) (length ys) refl, le-ltb 2048 (length ys) h, in_columns)
+        (or_sound (judge_list None (placed range 0 ys)))
+
+    -- what `form::judge` answers for the columns, and what `judge_tariffs` answers for the structs
+    pub judged_alone : length ys ≤ 2048 → {c r : Judgement} → Judged w Listing column c → r ≡ judge_list None (placed range 0 ys) → r ≡ c
+    judged_alone h c r = r ∙ sym (c.is ∙ alone h)
 
     -- where the ends are points
     pub sound_formed : ((i : ℕ) → i < length ys → ends i < w.points) → judge_list None (placed range 0 ys) ≡ Ok tt → WellFormed w.points (placed range 0 ys)

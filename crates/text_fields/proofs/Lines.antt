@@ -8,6 +8,7 @@ use lib.ListN.{length, take, get_or, length-append}
 use Rattle.std.specs.List.{flat_map}
 use Rattle.std.proofs.lemmas.Grind.{flat_map-append}
 use Rattle.std.proofs.lemmas.List.{take_more}
+use Rattle.std.proofs.lemmas.List.Folds.{flat_map-map}
 use Rattle.answer_text.specs.Lines.{parted, line, text}
 use Rattle.answer_text.specs.Answers.{firsts}
 use Rattle.text_fields.specs.declared.Field.{Field}
@@ -22,13 +23,17 @@ one_more f fs i h =
     ∙ flat_map-append f (take i fs) (get_or fs i Join ∷ [])
     ∙ ap (λ (t : List ℕ). flat_map f (take i fs) ++ t) (append-nil (f (get_or fs i Join)))
 
--- a field after a space, and a line's fields: the first, and the others so
+-- the fields of a line: the first, and each other after a space
+pub parted_fields : (f : List ℕ) (fs : List (List ℕ)) → parted (f ∷ fs) ≡ f ++ flat_map (λ g. 32 ∷ g) fs
+parted_fields f [] = sym (append-nil f)
+parted_fields f (g ∷ fs) = ap (λ (t : List ℕ). f ++ (32 ∷ t)) (parted_fields g fs)
+
+-- the same of fields as they are spelled
 abbrev pub after_space : Field → List ℕ
 after_space f = 32 ∷ spelled f
 
 pub first_and_others : (f : Field) (fs : List Field) → parted (map spelled (f ∷ fs)) ≡ spelled f ++ flat_map after_space fs
-first_and_others f [] = sym (append-nil (spelled f))
-first_and_others f (g ∷ fs) = ap (λ (t : List ℕ). spelled f ++ (32 ∷ t)) (first_and_others g fs)
+first_and_others f fs = parted_fields (spelled f) (map spelled fs) ∙ ap (λ (t : List ℕ). spelled f ++ t) (flat_map-map (λ g. 32 ∷ g) spelled fs)
 
 -- how long a line is: its fields, and a byte after each; an empty one has a byte too
 others_long : (fs : List Field) → length (flat_map after_space fs) ≡ length (flat_map spelled fs) + length fs

@@ -18,7 +18,7 @@ module _ (text : ℕ → List ℕ) (step : ℕ → List ℕ) (n : ℕ) (more : (
       let e : i + suc k ≡ (i + k) + 1 = omega arith in
       rw e (omega (arith, longer (i + k) (omega arith), grows k i (omega arith)))
 
-  within : (i : ℕ) → i ≤ n → length (text i) ≤ length (text n)
+  pub within : (i : ℕ) → i ≤ n → length (text i) ≤ length (text n)
   within i l = let e : i + (n - i) ≡ n = omega arith in rw e at (grows (n - i) i (omega arith))
 
   -- the text so far and what is spare make up the room

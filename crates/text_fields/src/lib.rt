@@ -24,7 +24,7 @@ pub enum Field {
 }
 
 // How many digits a natural number has.
-fn digits(n: u64) -> usize
+pub fn digits(n: u64) -> usize
     ensures { (result ≡ length (decimal n)) × (result ≤ 20) }
 {
     match n.checked_ilog10() {
@@ -77,7 +77,8 @@ pub struct Writer<'a> {
 }
 
 impl Writer<'_> {
-    fn word(&mut self, word: &[u8])
+    // Writes a word. It and the others go on from the writer's place.
+    pub fn word(&mut self, word: &[u8])
         requires { Fits self.old word.now }
         ensures { Writes self.old word.now self.new }
     {
@@ -85,7 +86,8 @@ impl Writer<'_> {
         self.at += word.len();
     }
 
-    fn byte(&mut self, byte: u8)
+    // One byte.
+    pub fn byte(&mut self, byte: u8)
         requires { Fits self.old (byte ∷ []) }
         ensures { Writes self.old (byte ∷ []) self.new }
     {
@@ -93,7 +95,8 @@ impl Writer<'_> {
         self.at += 1;
     }
 
-    fn field(&mut self, field: Field)
+    // A field, as it is spelled.
+    pub fn field(&mut self, field: Field)
         requires { Fits self.old (spelled field) }
         ensures { Writes self.old (spelled field) self.new }
     {

@@ -1,5 +1,5 @@
 -- Two lists that lie end to end, and what is left of them once the points before a place are done. Assumes nothing.
-use Rattle.std.specs.Prelude.{ℕ, max, ◌+◌, ◌-◌, Bool, true, false, cond, List, [], ◌∷◌, ltb, length}
+use Rattle.std.specs.Prelude.{ℕ, max, ◌+◌, ◌-◌, Bool, true, false, cond, List, [], ◌∷◌, ltb, eqb, length}
 use Rattle.std.specs.declared.option.Option.{Option}
 use Rattle.std.specs.declared.option.Option.TheVariants.{None, Some}
 use Rattle.rules.specs.Piece.{Piece}
@@ -27,6 +27,10 @@ abbrev pub no_right : Presence → Bool
 no_right Left = true
 no_right Right = false
 no_right Both = false
+
+-- the sides that a number names: 1 the left alone, 2 the right alone, any other both
+abbrev pub sides_of : ℕ → Presence
+sides_of n = cond (eqb n 1) Left (cond (eqb n 2) Right Both)
 
 abbrev pub left_place : Pair → Option ℕ
 left_place x = unless (no_left x.presence) x.left

@@ -4,7 +4,7 @@
 
 ghost use Rattle.std.specs.Prelude.{◌≡◌};
 ghost use Rattle.rules.specs.TwoWay.{presence};
-ghost use Rattle.two_way.specs.Sides.{two, view, piece_of, left_place, right_place, of_left, of_right, of_both};
+ghost use Rattle.two_way.specs.Sides.{two, view, piece_of, left_place, right_place, sides_of, of_left, of_right, of_both};
 ghost use Rattle.two_way.specs.Steps.{Ready, Stepped};
 
 use integer::Integer;
@@ -43,6 +43,19 @@ pub enum Presence {
     Left = 1,
     Right = 2,
     Both = 3,
+}
+
+impl Presence {
+    // The sides that a number names: 1 the left alone, 2 the right alone, any other both.
+    pub fn of(number: usize) -> Presence
+        ensures { result ≡ sides_of number }
+    {
+        match number {
+            1 => Presence::Left,
+            2 => Presence::Right,
+            _ => Presence::Both,
+        }
+    }
 }
 
 // A piece with the places of the ranges that cover it; a side that it misses has the place of the range that it goes on with. An Option

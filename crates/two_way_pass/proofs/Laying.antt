@@ -7,13 +7,14 @@ use native.Mathlib.Omega.{arith}
 use lib.IntN.{ℤ}
 use Rattle.std.specs.declared.option.Option.{Option}
 use Rattle.std.specs.declared.option.Option.TheVariants.{None, Some}
-use lib.ListN.{length, take, drop}
+use lib.ListN.{length, take, drop, length-take}
 use lib.Seq.{take_all, length-take-le}
 use Rattle.rules.specs.Piece.{Piece}
 use Rattle.rules.specs.Lists.{Width, Lent}
 use Rattle.rules.specs.TwoWay.{Match, side_value, presence}
-use Rattle.rules.specs.Paired.{Paired, room}
+use Rattle.rules.specs.Paired.{Paired, lengths, room}
 use Rattle.rules.specs.Refusals.{Formed}
+use Rattle.rules.specs.Proving.Long.{Long}
 use Rattle.rules.specs.declared.Pairing.{Pairing}
 use Rattle.rules.specs.declared.Kind.TheVariants.{TwoWay}
 use Rattle.rules.proofs.Fronts.{drop_lt, drop_more, drop_none, laid_long, laid_more, laid_nothing}
@@ -47,6 +48,13 @@ put_row w v true place y c = row w v place (piece_of y) c
 put_row w v false place y c = c
 
 module _ {P : Type 0} (w : Width P) (v : List ℤ) (from : ℕ) (c : Paired P) where
+  -- pieces that there is room for leave the lengths
+  pub lays_long : (write : Bool) (xs : List (Piece Match)) → (write ≡ true → from + length xs ≤ room c) → Long (lengths (lays w v write from xs c)) (lengths c)
+  lays_long false xs h = (refl, (refl, (refl, (refl, (refl, tt)))))
+  lays_long true xs h =
+      let r = h refl in
+      (laid_long _ from xs c.start (omega arith), (laid_long _ from xs c.end (omega arith), (laid_long _ from xs c.left (omega arith), (laid_long _ from xs c.right (omega arith), (laid_long _ from xs c.presence (omega arith), tt)))))
+
   lays_nothing : (write : Bool) → lays w v write from [] c ≡ c
   lays_nothing false = refl
   lays_nothing true = λ i. record {
@@ -95,6 +103,9 @@ pub record Going {P : Type 0} (w : Width P) (o : Pairing) (l : Lent P) (m : ℕ)
 module _ {P : Type 0} {w : Width P} {o : Pairing} {l : Lent P} {m : ℕ} {write : Bool} {from : ℕ} {c d : Paired P} {k : Cursor} {n : ℕ} (g : Going w o l m write from c d k n) where
   abbrev ps : List (Piece Match)
   ps = pairs w o l
+
+  pub going_long : Long (lengths d) (lengths c)
+  going_long = rw g.laid (lays_long w l.values from c write (take n ps) (λ e. omega (arith, length-take n ps, g.roomy e)))
 
   module _ {r : Option (Pair × Cursor)} {y : Pair} {j : Cursor} (e : Stepped (both w l m) o (view (both w l m) k) r) (q : r ≡ Some (y, j)) where
     s : Took (both w l m) o (view (both w l m) k) y (view (both w l m) j)

@@ -5,7 +5,7 @@ use Rattle.event_listing.proofs.Rows.{same_none, same_more, written_none, writte
 use Rattle.event_listing.proofs.write_events.Goals as goal
 
 pub loop-place-init : goal.loop-place-init
-loop-place-init g c = (written_none c.requires c.new-sweep.ensures, same_none c.args.out.now)
+loop-place-init g c = (written_none c.requires c.new-sweep.ensures.begins, same_none c.args.out.now)
 
 pub unreachable-requires : goal.unreachable-requires
 unreachable-requires g c = none_taken c.loop-place.invariant.0 (whole c.step.new.self) c.step.ensures.next (omega arith) c.in_default.is

@@ -6,7 +6,7 @@ use Rattle.heap.proofs.+sift.Goals.{then-place-len+else-earlier, else-place-len}
 
 pub returns-then-earlier : goal.returns-then-earlier
 returns-then-earlier t g c =
-    sift_goes c.lesser-child.ensures (rw c.get-below.ensures at (c.earlier.ensures.yes c.if-earlier.true)) c.sift.ensures (rw c.get-below.ensures at c.put.ensures)
+    sift_goes c.lesser-child.ensures (rw c.get-below.ensures at (c.earlier.ensures.yes c.if-earlier.true)) (rw c.get-below.ensures at c.put.ensures) c.sift.ensures
 
 pub returns : goal.returns
 returns t g c =

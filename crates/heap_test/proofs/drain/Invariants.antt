@@ -1,4 +1,5 @@
+use Rattle.std.proofs.Common.{◌+◌, ◌≡◌}
 use Rattle.heap_test.proofs.drain.Given as goal
 
-abbrev pub decreases-loop-least : goal.decreases-loop-least
-decreases-loop-least g l = l.heap.len
+abbrev pub invariant-loop-i : goal.invariant-loop-i
+invariant-loop-i l = l.heap.len + l.i ≡ 16

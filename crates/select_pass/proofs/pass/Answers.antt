@@ -4,19 +4,20 @@ use Rattle.multiway_sweep.specs.Steps.{whole}
 use Rattle.multiway_pass.proofs.Outputs.{same_first, same_then}
 use Rattle.multiway_pass.proofs.Walks.{going_first, last_puttable, walked}
 use Rattle.multiway_pass.proofs.Merges.{walkable, all_merged}
+use Rattle.select_pass.proofs.Carried.{carried_on, takes_on}
 use Rattle.select_pass.proofs.Selects.{selecting_first, held_length, taking, none_taken, over, one_apart, one_puttable, one_going, none_going, next}
 use Rattle.select_pass.proofs.pass.Goals as goal
 use Rattle.select_pass.proofs.pass.Goals.{else-loop-test, then-loop-test+in_default, in-Some-next, in_default-next}
 
 -- no list is active
 pub loop-init : goal.loop-init
-loop-init g c = (0, selecting_first g.P.Integer.width c.requires.formed c.new-sweep.ensures c.new-selection.ensures (omega arith), going_first (walkable c.requires), same_first)
+loop-init g c = (0, selecting_first g.P.Integer.width c.requires.formed c.new-sweep.ensures.begins c.new-selection.ensures (omega arith), going_first (walkable c.requires), same_first)
 
 -- the event is taken
 pub take-requires : goal.take-requires
 take-requires g c =
     let i = c.loop.invariant.1 in
-    rw c.emit-next.ensures.same (i.act, i.carried, (taking i c.in-Some.event (c.in-Some.ensures.next _ i.sweeping)).fits)
+    (i.act, carried_on c.emit-next.ensures.same i.carried, (taking i c.in-Some.event (c.in-Some.ensures.next _ i.sweeping)).fits)
 
 -- there is a piece: it is pushed to what is pending, and what is done is put
 pub push_merged-pushed-requires : goal.push_merged-pushed-requires
@@ -35,7 +36,7 @@ pub loop-preserved : goal.loop-preserved
 loop-preserved g c =
     let i = c.loop.invariant.1 in
     let k = taking i c.in-Some.event (c.in-Some.ensures.next _ i.sweeping) in
-    let n = next i k c.greatest_key.result (rw c.emit-next.ensures.same at c.take.ensures) c.greatest_key.ensures (omega (arith, c.loop-test.true)) in
+    let n = next i k c.greatest_key.result (takes_on c.emit-next.ensures.same _ _ c.take.ensures) c.greatest_key.ensures (omega (arith, c.loop-test.true)) in
     elim c.match-next.branch [
       | in-Some-next w ↦
           rw (w.out-is, w.pending-is, w.count-is)

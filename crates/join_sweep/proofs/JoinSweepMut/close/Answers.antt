@@ -1,8 +1,12 @@
--- `JoinSweep::close` meets its contract: it takes the ends of the last stretch. Assumes nothing.
+-- `JoinSweepMut::close` meets its contract: it takes the ends of the last stretch. Assumes nothing.
 use mathlib.Core.Path.{refl}
 use native.Mathlib.Omega.{arith}
+use Rattle.join_sweep.proofs.Lent.{same_first, same_step}
 use Rattle.join_sweep.proofs.Turns.{closed, ended_few, ended_past, ended_on}
-use Rattle.join_sweep.proofs.JoinSweep.close.Goals as goal
+use Rattle.join_sweep.proofs.JoinSweepMut.close.Goals as goal
+
+pub loop-list-init : goal.loop-list-init
+loop-list-init g c = (λ ls s. s, refl, same_first)
 
 -- the list that ends is one of sixteen, and something is active
 pub bounds-self-list : goal.bounds-self-list
@@ -21,7 +25,7 @@ loop-list-smaller g c = omega (arith, (ended_few (c.loop-list.invariant.0 _ c.re
 
 -- the end is taken
 pub loop-list-preserved : goal.loop-list-preserved
-loop-list-preserved g c = (λ ls s. ended_on (c.loop-list.invariant.0 ls s) c.ending.ensures c.in-Some.is refl c.step-self.ensures.next, c.loop-list.invariant.1)
+loop-list-preserved g c = (λ ls s. ended_on (c.loop-list.invariant.0 ls s) c.ending.ensures c.in-Some.is refl c.step-self.ensures.next, c.loop-list.invariant.1, same_step c.loop-list.invariant.2 c.step-self.ensures.same refl refl)
 
 -- they are all taken
 pub returns-clause-closed : goal.returns-clause-closed

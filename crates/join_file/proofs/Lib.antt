@@ -1,0 +1,2 @@
+-- What a printing call answers.
+pub mod Counted
