@@ -106,6 +106,26 @@ sift_on {f} {m} {g} {n} {place} {c} {v} w ch l s k =
       least = λ x y z. omega (arith, k.before place (omega (arith, ch.under.past)), s.here, z c ch.under ch.inside);
     }
 
+-- the same with v sunk from the child's place first, and the child's entry brought up after it
+sift_up : {f m g : ℕ → ℕ} {n place c v : ℕ} → Raises f n place v → Chosen f n place c → f c < v → Sunk f m n c v → Stored m g place (f c) → Sunk f g n place v
+unfolding Ordered OrderedBut
+sift_up {f} {m} {g} {n} {place} {c} {v} w ch l k s =
+    let stays : m place ≡ f place = k.before place (omega (arith, ch.under.past)) in
+    let first : f place ≤ f c = w.ordered place c ch.under ch.inside in
+    let child : f c ≤ m c = k.least (f c) (omega arith) (λ i u y. w.ordered c i u y) in
+    record {
+      replaced = record {
+        ordered = stored_ordered s
+            (λ p i u y _ _. k.replaced.ordered p i u y)
+            (λ p u. omega (arith, k.replaced.ordered p place u w.inside, stays, first))
+            (λ i u y. by_eq i c (λ z. omega (arith, ap m z, child)) (λ ne. omega (arith, ch.least i u y, k.rises i ne)));
+        kept = λ e. omega (arith, stored_count s e n w.inside, k.replaced.kept e, ap (one e) stays);
+      };
+      before = λ i y. s.other i (omega arith) ∙ k.before i (omega (arith, ch.under.past));
+      rises = λ i ne. by_eq i c (λ z. omega (arith, s.other i ne, ap m z, ap f z, child)) (λ nz. omega (arith, s.other i ne, k.rises i nz));
+      least = λ x y z. omega (arith, s.here, z c ch.under ch.inside);
+    }
+
 -- a place has one parent
 pub one_parent : (f : ℕ → ℕ) (p : ℕ) {place v : ℕ} → Under p place → f p ≤ v → (q : ℕ) → Under q place → f q ≤ v
 one_parent f p u l q x = let z : q ≡ p = omega arith in omega (arith, ap f z)
@@ -129,8 +149,18 @@ module _ {f g : ℕ → ℕ} {place v : ℕ} where
         };
   }
 
-  pub sift_goes : {m : ℕ → ℕ} {n c : ℕ} → Chosen f n place c → f c < v → Stored f m place (f c) → Sifted m g n c v → Sifted f g n place v
-  sift_goes ch l s k = record { settled = λ o. sift_on o ch l s (k.settled (sift_raises o ch l s)) }
+  -- the child's entry comes up, and v sinks from there
+  pub sift_goes_on : {m : ℕ → ℕ} {n c : ℕ} → Chosen f n place c → f c < v → Stored f m place (f c) → Sifted m g n c v → Sifted f g n place v
+  sift_goes_on ch l s k = record { settled = λ o. sift_on o ch l s (k.settled (sift_raises o ch l s)) }
+
+  -- v sinks from the child's place, and the child's entry comes up
+  pub sift_goes : {m : ℕ → ℕ} {n c : ℕ} → Chosen f n place c → f c < v → Sifted f m n c v → Stored m g place (f c) → Sifted f g n place v
+  unfolding Ordered
+  sift_goes {n = n} {c = c} ch l k s = record {
+    settled = λ o.
+        let first : f place ≤ f c = o.ordered place c ch.under ch.inside in
+        sift_up o ch l (k.settled (record { inside = ch.inside; ordered = o.ordered; above = λ p u. let z : p ≡ place = omega arith in omega (arith, ap f z, first) })) s;
+  }
 
 module _ {f g : ℕ → ℕ} {n v : ℕ} (o : Heap f n) where
   pub pushed : n < 16 → Climbed f g n v → Pushed f g n v
